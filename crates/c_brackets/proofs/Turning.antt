@@ -8,9 +8,9 @@ use Rattle.c_model.specs.declared.point.Point.TheVariants.{TaskCreate}
 use Rattle.c_model.specs.Begin.{created_construct}
 use Rattle.c_model.specs.Cells.{Bound}
 use Rattle.c_model.specs.Clauses.{construct_statement}
-use Rattle.c_model.specs.Coming.{binds, goes_on, goes_on_with, sets, with_result}
-use Rattle.c_model.specs.Going.{items_after}
-use Rattle.c_model.specs.Task.{Here, Item, Moment, Outcome, Store}
+use Rattle.c_model.specs.StepOutcomes.{binds, goes_on, goes_on_with, sets, with_result}
+use Rattle.c_model.specs.AfterEvents.{items_after}
+use Rattle.c_model.specs.Task.{StepStart, Item, Moment, Outcome, Store}
 use Rattle.c_model.specs.Task.Outcome.{StepsTo, Occurs, Ends, Limits}
 use Rattle.c_brackets.specs.Effects.{LeadsTo, effect_of}
 use Rattle.c_brackets.specs.Links.{link_item, link_made, link_next, link_of}
@@ -21,7 +21,7 @@ use Rattle.c_brackets.proofs.OpenLists.{IsAdded, falls_behind, in_order}
 use Rattle.c_brackets.proofs.ReturnTrees.{IsFree}
 
 -- an item stands before what remains, and all is in order
-pub record IsRoom (here : Here) (item : Item) : Type 0 where
+pub record IsRoom (here : StepStart) (item : Item) : Type 0 where
   pub program : HasReturnsOutside here.program
   pub now : IsKept item here.task.todo
   pub behind : AreBehind here.task.todo
@@ -29,7 +29,7 @@ pub record IsRoom (here : Here) (item : Item) : Type 0 where
   pub calls : AreCallsKept here.task.calls
 
 -- a silent step of the item
-pub record StepsOn (here : Here) (item : Item) (next : Moment) : Type 0 where
+pub record StepsOn (here : StepStart) (item : Item) (next : Moment) : Type 0 where
   pub is : IsOrderly next.task
   pub behind : AreBehind next.task.todo
   pub same : open_task next.task ≡ open_items (item ∷ here.task.todo) ++ open_calls here.task.calls
@@ -40,7 +40,7 @@ CreatesFree (TaskCreate codeptr undeferred) items = IsFree (construct_statement 
 CreatesFree point items = Unit {0}
 
 -- an event of the item
-pub record LeadsOn (here : Here) (item : Item) (point : Point) : Type 0 where
+pub record LeadsOn (here : StepStart) (item : Item) (point : Point) : Type 0 where
   pub apart : is_fall_off item ≡ false
   pub effect : (executes : Bool)
       → LeadsTo (effect_of point executes) (open_items (item ∷ here.task.todo)) (open_items (items_after point executes (length here.task.env) item ++ here.task.todo))
@@ -49,36 +49,36 @@ pub record LeadsOn (here : Here) (item : Item) (point : Point) : Type 0 where
   pub makes : (executes : Bool) → link_next (items_after point executes (length here.task.env) item ++ here.task.todo) ≡ link_made point
   pub creates : CreatesFree point (item ∷ here.task.todo)
 
-unfoldable pub Turns : Here → Item → Outcome → Type 0
+unfoldable pub Turns : StepStart → Item → Outcome → Type 0
 Turns here item (StepsTo next) = StepsOn here item next
 Turns here item (Occurs point tree) = LeadsOn here item point
 Turns here item (Ends number) = ⊥
 Turns here item other = Unit {0}
 
 -- outcomes
-pub turns_choice : (here : Here) (item : Item) (choice : Bool) (one other : Outcome) → Turns here item one → Turns here item other
+pub turns_choice : (here : StepStart) (item : Item) (choice : Bool) (one other : Outcome) → Turns here item one → Turns here item other
     → Turns here item (if choice then one else other)
 turns_choice here item true one other first second = first
 turns_choice here item false one other first second = second
 
-pub turns_limit : (here : Here) (item : Item) (limit : ℕ) → Turns here item (Limits limit)
+pub turns_limit : (here : StepStart) (item : Item) (limit : ℕ) → Turns here item (Limits limit)
 unfolding Turns
 turns_limit here item limit = tt
 
-pub turns_step : (here : Here) (item : Item) (next : Moment) → StepsOn here item next → Turns here item (StepsTo next)
+pub turns_step : (here : StepStart) (item : Item) (next : Moment) → StepsOn here item next → Turns here item (StepsTo next)
 unfolding Turns
 turns_step here item next is = is
 
-pub turns_unless : (here : Here) (item : Item) (choice : Bool) (limit : ℕ) (next : Moment) → StepsOn here item next
+pub turns_unless : (here : StepStart) (item : Item) (choice : Bool) (limit : ℕ) (next : Moment) → StepsOn here item next
     → Turns here item (if choice then Limits limit else StepsTo next)
 turns_unless here item choice limit next is =
     turns_choice here item choice (Limits limit) (StepsTo next) (turns_limit here item limit) (turns_step here item next is)
 
-pub turns_event : (here : Here) (item : Item) (point : Point) (tree : Tree) → LeadsOn here item point → Turns here item (Occurs point tree)
+pub turns_event : (here : StepStart) (item : Item) (point : Point) (tree : Tree) → LeadsOn here item point → Turns here item (Occurs point tree)
 unfolding Turns
 turns_event here item point tree is = is
 
-pub turns_result : {A : Type 0} (here : Here) (item : Item) (result : Result A ℕ) (next : A → Outcome) → ((a : A) → Turns here item (next a))
+pub turns_result : {A : Type 0} (here : StepStart) (item : Item) (result : Result A ℕ) (next : A → Outcome) → ((a : A) → Turns here item (next a))
     → Turns here item (with_result result next)
 unfolding Turns
 turns_result here item (Ok a) next each = each a
@@ -89,7 +89,7 @@ pub plain_same : (item : Item) (items : List Item) → open_item item ≡ [] →
 unfolding open_items
 plain_same item items plain = ap (λ (opened : List Open). opened ++ open_items items) plain
 
-module _ (here : Here) (item : Item) (room : IsRoom here item) (plain : open_item item ≡ []) (apart : is_fall_off item ≡ false) where
+module _ (here : StepStart) (item : Item) (room : IsRoom here item) (plain : open_item item ≡ []) (apart : is_fall_off item ≡ false) where
   pub framed_behind : IsFramed here.task.todo here.task.calls
   framed_behind has = falls_behind item here.task.todo apart (room.framed has)
 

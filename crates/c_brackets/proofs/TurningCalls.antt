@@ -11,9 +11,9 @@ use Rattle.c_model.specs.Parts.{parts}
 use Rattle.c_model.specs.Program.{body_of, function_named}
 use Rattle.c_model.specs.Cells.{Bound}
 use Rattle.c_model.specs.Value.{all_values}
-use Rattle.c_model.specs.Coming.{scope_of, value_here}
+use Rattle.c_model.specs.StepOutcomes.{scope_of, value_here}
 use Rattle.c_model.specs.Calls.{begin_call, begin_return_of, begin_right, bound_in, ends_test, enters, open_call, returns_to, value_items}
-use Rattle.c_model.specs.Task.{Here, Item, Moment, OpenCall}
+use Rattle.c_model.specs.Task.{StepStart, Item, Moment, OpenCall}
 use Rattle.c_model.specs.Task.Item.{Start, FallOff}
 use Rattle.c_brackets.specs.Links.{link_item}
 use Rattle.c_brackets.specs.Opened.{Open, open_calls, open_item, open_items}
@@ -23,7 +23,7 @@ use Rattle.c_brackets.proofs.Adding.{value_added}
 use Rattle.c_brackets.proofs.OpenLists.{in_order, never}
 use Rattle.c_brackets.proofs.Turning.{IsRoom, StepsOn, Turns, framed_behind, moves, plain_same, turns_choice, turns_event, turns_limit, turns_result, turns_step}
 
-module _ (here : Here) (item : Item) (room : IsRoom here item) (plain : open_item item ≡ []) where
+module _ (here : StepStart) (item : Item) (room : IsRoom here item) (plain : open_item item ≡ []) where
   -- nothing is open in the function that ends
   pub turns_returns : (opened : List OpenCall) (number : ℤ) → here.task.calls ≡ opened → open_items here.task.todo ≡ [] → AreCallsKept opened
       → Turns here item (returns_to opened here number)

@@ -14,8 +14,8 @@ use Rattle.c_model.specs.declared.view.View.{View}
 use Rattle.c_model.specs.Begin.{explicit_task, forked_construct, main_task, member_items, member_task}
 use Rattle.c_model.specs.Clauses.{construct_statement}
 use Rattle.c_model.specs.Copies.{combines, has_own_cells, makes_cells}
-use Rattle.c_model.specs.Going.{after_answer, after_event, answered_at, passed_at}
-use Rattle.c_model.specs.Step.{is_masked, is_passed_over, items_from_next, settled_moment, settled_task, silent, step_at}
+use Rattle.c_model.specs.AfterEvents.{after_answer, after_event, answered_at, passed_at}
+use Rattle.c_model.specs.Step.{is_masked, skips_masked, items_from_next, settled_moment, settled_task, silent, step_at}
 use Rattle.c_model.specs.Task.{Item, Moment, Task}
 use Rattle.c_model.specs.Task.Item.{Start, MakeCells, Sync}
 use Rattle.c_model.specs.Task.Outcome.{StepsTo, Occurs}
@@ -33,7 +33,7 @@ settled-start true tree items settled none = none
 settled-start false tree items settled none = refl
 
 settled-by : (view : View) (item : Item) (items settled : List Item) → link_next settled ≡ None
-    → link_next (if is_passed_over item view then settled else item ∷ items) ≡ link_item item
+    → link_next (if skips_masked item view then settled else item ∷ items) ≡ link_item item
 settled-by view (Start tree) items settled none = settled-start (is_masked (kind_of tree) && not (view.index == 0)) tree items settled none
 settled-by view other items settled none = refl
 

@@ -28,14 +28,14 @@ use Rattle.c_model.specs.Cells.{cell_at, entry_of, with_cells, with_declarator}
 use Rattle.c_model.specs.Value.{all_values, cell_of, is_zero}
 use Rattle.c_model.specs.Calls.{begin_lock_call}
 use Rattle.c_model.specs.Clauses.{condition_of, construct_statement, has_nowait, requested_threads}
-use Rattle.c_model.specs.Coming.{bound_of, goes_on, goes_on_with, scope_of, value_here}
+use Rattle.c_model.specs.StepOutcomes.{bound_of, goes_on, goes_on_with, scope_of, value_here}
 use Rattle.c_model.specs.Constructs.{begin_critical, begin_iteration, begin_loop, begin_masked, begin_parallel, begin_sections, begin_single, begin_task, iterations_from, reduction_result, value_or}
 use Rattle.c_model.specs.Copies.{makes_cells, with_own_cells}
-use Rattle.c_model.specs.Going.{next_stage, tree_at_event, work_items}
+use Rattle.c_model.specs.AfterEvents.{next_stage, tree_at_event, work_items}
 use Rattle.c_model.specs.Loops.{loop_of}
 use Rattle.c_model.specs.Statements.{assigns, begin_block, begin_for, begin_local_set, begin_set_to_call, begin_set_to_value, branch_taken, declares, makes_first_step, makes_step, new_number, setting_of, test_for, test_value}
 use Rattle.c_model.specs.Step.{begin_construct, begin_inside, begin_standalone, begin_statement, step_of}
-use Rattle.c_model.specs.Task.{Here, Item, SharedLoop, items_of_parts}
+use Rattle.c_model.specs.Task.{StepStart, Item, SharedLoop, items_of_parts}
 use Rattle.c_model.specs.Task.Item.{Start, Declare, Leave, Test, Third, Initialise, Return, FallOff, Forked, Inside, MakeCells, NextChunk, Iterations, NextSection, Combine, EndWork, EndMasked, Sync, Acquire, Release, TestLock, Tested}
 use Rattle.c_brackets.specs.Effects.{LeadsTo, effect_at, work_open}
 use Rattle.c_brackets.specs.Links.{link_behind, link_item, link_next}
@@ -56,7 +56,7 @@ unfolding AreBehind open_items falls_off
 one-added tree items proper returns behind = record { behind = (refl, (proper, returns), behind); same = refl; falls = λ is. is }
 
 -- declarators and assignments
-module _ (here : Here) (item : Item) (room : IsRoom here item) (plain : open_item item ≡ []) (apart : is_fall_off item ≡ false) where
+module _ (here : StepStart) (item : Item) (room : IsRoom here item) (plain : open_item item ≡ []) (apart : is_fall_off item ≡ false) where
   remains : IsAdded here.task.todo here.task.todo
   remains = none_added here.task.todo room.behind
 
@@ -116,11 +116,11 @@ again-added true body tree items proper returns again = record { behind = again.
 again-added false body tree items proper returns again = record { behind = (refl, (proper, returns), again.behind); same = refl; falls = λ is. is }
 
 -- the work of a construct begins
-record IsBegun (here : Here) (construct : Tree) (kind : Work) (executes : Bool) : Type 0 where
+record IsBegun (here : StepStart) (construct : Tree) (kind : Work) (executes : Bool) : Type 0 where
   behind : AreBehind (work_items kind construct (length here.task.env) executes ++ here.task.todo)
   same : open_items (work_items kind construct (length here.task.env) executes ++ here.task.todo) ≡ work_open kind executes ∷ open_items here.task.todo
 
-begun : (here : Here) (item : Item) (construct : Tree) (codeptr : ℕ) (kind : Work) → IsRoom here item → open_item item ≡ [] → is_fall_off item ≡ false
+begun : (here : StepStart) (item : Item) (construct : Tree) (codeptr : ℕ) (kind : Work) → IsRoom here item → open_item item ≡ [] → is_fall_off item ≡ false
     → link_item item ≡ None → tree_at_event item ≡ construct
     → ((executes : Bool) → IsBegun here construct kind executes) → LeadsOn here item (WorkBegin codeptr kind)
 begun here item construct codeptr kind room plain apart linkless is each =
@@ -138,7 +138,7 @@ begun here item construct codeptr kind room plain apart linkless is each =
       creates = tt;
     }
 
-turns-loop : (here : Here) (item : Item) (construct : Tree) → IsRoom here item → open_item item ≡ [] → is_fall_off item ≡ false → link_item item ≡ None
+turns-loop : (here : StepStart) (item : Item) (construct : Tree) → IsRoom here item → open_item item ≡ [] → is_fall_off item ≡ false → link_item item ≡ None
     → tree_at_event item ≡ construct → HasNoReturn construct → Turns here item (begin_loop here construct)
 unfolding AreBehind open_items
 turns-loop here item construct room plain apart linkless is free =
@@ -146,13 +146,13 @@ turns-loop here item construct room plain apart linkless is free =
     turns_result here item (value_here here (loop_of construct).end) _ (λ end.
     turns_event here item _ construct (begun here item construct _ _ room plain apart linkless is (λ executes. record { behind = (refl, (free, λ is. never is), room.behind); same = refl }))))
 
-turns-sections : (here : Here) (item : Item) (construct : Tree) → IsRoom here item → open_item item ≡ [] → is_fall_off item ≡ false → link_item item ≡ None
+turns-sections : (here : StepStart) (item : Item) (construct : Tree) → IsRoom here item → open_item item ≡ [] → is_fall_off item ≡ false → link_item item ≡ None
     → tree_at_event item ≡ construct → HasNoReturn construct → Turns here item (begin_sections construct)
 unfolding AreBehind open_items
 turns-sections here item construct room plain apart linkless is free =
     turns_event here item _ construct (begun here item construct _ _ room plain apart linkless is (λ executes. record { behind = (refl, (free, λ is. never is), room.behind); same = refl }))
 
-single-begun : (here : Here) (construct : Tree) (executes : Bool) → AreBehind here.task.todo → HasNoReturn construct
+single-begun : (here : StepStart) (construct : Tree) (executes : Bool) → AreBehind here.task.todo → HasNoReturn construct
     → IsBegun here construct work.Single executes
 unfolding AreBehind open_items
 single-begun here construct true behind free =
@@ -160,7 +160,7 @@ single-begun here construct true behind free =
 single-begun here construct false behind free = record { behind = (refl, (tt, λ is. never is), behind); same = refl }
 
 -- constructs
-module _ (here : Here) (construct : Tree) (room : IsRoom here (Start construct)) (is : tree_at_event (Start construct) ≡ construct) (free : HasNoReturn construct) where
+module _ (here : StepStart) (construct : Tree) (room : IsRoom here (Start construct)) (is : tree_at_event (Start construct) ≡ construct) (free : HasNoReturn construct) where
   turns-parallel : Turns here (Start construct) (begin_parallel here construct)
   unfolding AreInOrder open_items
   turns-parallel =
@@ -236,14 +236,14 @@ stage-leads tree at kind stage.WaitBegin items behind = (refl, ((tt, λ is. neve
 stage-leads tree at kind stage.WaitEnd items behind = (refl, ((tt, λ is. never is), behind), refl)
 stage-leads tree at kind stage.RegionEnd items behind = (refl, in_order items behind, none_next items behind)
 
-turns-standalone : (which : Standalone) (here : Here) (tree : Tree) → AreBehind here.task.todo → Turns here (Start tree) (begin_standalone which tree)
+turns-standalone : (which : Standalone) (here : StepStart) (tree : Tree) → AreBehind here.task.todo → Turns here (Start tree) (begin_standalone which tree)
 unfolding AreInOrder open_items
 turns-standalone standalone.Barrier here tree behind =
     turns_event here (Start tree) _ tree (record { apart = refl; effect = λ executes. refl; order = λ executes. ((tt, λ is. never is), behind); follows = refl; makes = λ executes. refl; creates = tt })
 turns-standalone standalone.Taskwait here tree behind =
     turns_event here (Start tree) _ tree (record { apart = refl; effect = λ executes. refl; order = λ executes. ((tt, λ is. never is), behind); follows = refl; makes = λ executes. refl; creates = tt })
 
-turns-lock : (which : LockCall) (here : Here) (tree : Tree) → AreBehind here.task.todo → Turns here (Start tree) (begin_lock_call which here tree)
+turns-lock : (which : LockCall) (here : StepStart) (tree : Tree) → AreBehind here.task.todo → Turns here (Start tree) (begin_lock_call which here tree)
 unfolding AreInOrder open_items
 turns-lock lock.Init here tree behind =
     turns_event here (Start tree) _ tree (record { apart = refl; effect = λ executes. refl; order = λ executes. in_order here.task.todo behind; follows = refl; makes = λ executes. none_next here.task.todo behind; creates = tt })
@@ -255,7 +255,7 @@ turns-lock lock.Unset here tree behind =
     turns_event here (Start tree) _ tree (record { apart = refl; effect = λ executes. refl; order = λ executes. in_order here.task.todo behind; follows = refl; makes = λ executes. none_next here.task.todo behind; creates = tt })
 
 -- a statement begins
-turns-block : (here : Here) (tree : Tree) → IsRoom here (Start tree) → ReturnOutsideEach (children_of tree)
+turns-block : (here : StepStart) (tree : Tree) → IsRoom here (Start tree) → ReturnOutsideEach (children_of tree)
     → (IsTrue (has_return_among (children_of tree)) → open_items here.task.todo ≡ []) → Turns here (Start tree) (begin_block here tree)
 unfolding AreBehind open_items falls_off
 turns-block here tree room proper returns =
@@ -264,7 +264,7 @@ turns-block here tree room proper returns =
     (block_added (children_of tree) (Leave (length here.task.env) ∷ here.task.todo) here.task.todo proper returns
     (record { behind = (refl, (tt, λ is. never is), room.behind); same = refl; falls = λ is. is })))
 
-turns-for : (here : Here) (tree : Tree) → IsRoom here (Start tree) → ReturnOutsideEach (children_of tree)
+turns-for : (here : StepStart) (tree : Tree) → IsRoom here (Start tree) → ReturnOutsideEach (children_of tree)
     → (IsTrue (has_return_among (children_of tree)) → open_items here.task.todo ≡ []) → Turns here (Start tree) (begin_for here tree)
 unfolding AreBehind open_items falls_off
 turns-for here tree room proper returns =
@@ -275,7 +275,7 @@ turns-for here tree room proper returns =
       falls = λ is. is;
     })
 
-turns-construct : (which : Directive) (here : Here) (construct : Tree) → IsRoom here (Start construct) → tree_at_event (Start construct) ≡ construct
+turns-construct : (which : Directive) (here : StepStart) (construct : Tree) → IsRoom here (Start construct) → tree_at_event (Start construct) ≡ construct
     → HasNoReturn construct → Turns here (Start construct) (begin_construct which here construct)
 turns-construct directive.Parallel here construct room is free = turns-parallel here construct room is free
 turns-construct directive.For here construct room is free = turns-loop here (Start construct) construct room refl refl refl is free
@@ -288,7 +288,7 @@ turns-construct directive.Master here construct room is free = turns-masked here
 turns-construct directive.Critical here construct room is free = turns-critical here construct room is free
 turns-construct directive.Task here construct room is free = turns-task here construct room is free
 
-turns-statement : (here : Here) (tree : Tree) → IsRoom here (Start tree) → Turns here (Start tree) (begin_statement (kind_of tree) here tree)
+turns-statement : (here : StepStart) (tree : Tree) → IsRoom here (Start tree) → Turns here (Start tree) (begin_statement (kind_of tree) here tree)
 unfolding ReturnsOutside has_return
 turns-statement here (Node node.Block spot name number text children) room =
     turns-block here (Node node.Block spot name number text children) room room.now.0 room.now.1
@@ -331,7 +331,7 @@ turns-statement here (Node kind spot name number text children) room =
     turns_on here (Start (Node kind spot name number text children)) room refl refl [] (none_added here.task.todo room.behind)
 
 -- the parts of a plain loop
-turns-test : (here : Here) (tree : Tree) (stay : ℕ) → IsRoom here (Test tree stay) → Turns here (Test tree stay) (test_for here tree stay)
+turns-test : (here : StepStart) (tree : Tree) (stay : ℕ) → IsRoom here (Test tree stay) → Turns here (Test tree stay) (test_for here tree stay)
 unfolding AreBehind open_items falls_off
 turns-test here tree stay room =
     turns_result here (Test tree stay) (test_value here tree) _ (λ number.
@@ -340,14 +340,14 @@ turns-test here tree stay room =
     (turns_on here (Test tree stay) room refl refl (Start (child_at tree 3) ∷ Third tree stay ∷ [])
     (record { behind = (refl, room.now, (refl, room.now, room.behind)); same = refl; falls = λ is. is })))
 
-turns-third : (here : Here) (tree : Tree) (stay : ℕ) → IsRoom here (Third tree stay)
+turns-third : (here : StepStart) (tree : Tree) (stay : ℕ) → IsRoom here (Third tree stay)
     → Turns here (Third tree stay) (makes_step (kind_of (child_at tree 2)) here (child_at tree 2) (Test tree stay ∷ []))
 unfolding AreBehind open_items falls_off
 turns-third here tree stay room =
     turns-makes here (Third tree stay) room refl refl (kind_of (child_at tree 2)) (child_at tree 2) (Test tree stay ∷ [])
     (record { behind = (refl, room.now, room.behind); same = refl; falls = λ is. is })
 
-turns-inside : (here : Here) (construct : Tree) → IsRoom here (Inside construct)
+turns-inside : (here : StepStart) (construct : Tree) → IsRoom here (Inside construct)
     → Turns here (Inside construct) (begin_inside (kind_of construct) here construct)
 turns-inside here (Node (node.Construct directive.ParallelFor) spot name number text children) room =
     let tree = Node (node.Construct directive.ParallelFor) spot name number text children in turns-loop here (Inside tree) tree room refl refl refl refl room.now.0
@@ -357,7 +357,7 @@ turns-inside here (Node kind spot name number text children) room =
     turns_on here (Inside (Node kind spot name number text children)) room refl refl [] (none_added here.task.todo room.behind)
 
 -- an iteration
-turns-iteration : (here : Here) (loop : SharedLoop) (at upto : ℕ) → IsRoom here (Iterations loop at upto)
+turns-iteration : (here : StepStart) (loop : SharedLoop) (at upto : ℕ) → IsRoom here (Iterations loop at upto)
     → Turns here (Iterations loop at upto) (begin_iteration here loop at upto)
 unfolding AreInOrder AreBehind open_items falls_off
 turns-iteration here loop at upto room =
@@ -380,7 +380,7 @@ unfolding AreInOrder open_items
 barrier-leads true construct items behind = (refl, in_order items behind, none_next items behind)
 barrier-leads false construct items behind = (refl, ((tt, λ is. never is), behind), refl)
 
-pub turns_item : (item : Item) (here : Here) → IsRoom here item → Turns here item (step_of item here)
+pub turns_item : (item : Item) (here : StepStart) → IsRoom here item → Turns here item (step_of item here)
 unfolding Turns open_items
 turns_item (Start tree) here room = turns-statement here tree room
 turns_item (Declare tree) here room = turns-declares here (Declare tree) room refl refl (kind_of tree) tree

@@ -20,9 +20,9 @@ use Rattle.c_model.specs.Calls.{value_items}
 use Rattle.c_model.specs.Clauses.{construct_statement, sections_of}
 use Rattle.c_model.specs.Constructs.{iterations_from}
 use Rattle.c_model.specs.Copies.{combines, makes_cells}
-use Rattle.c_model.specs.Going.{after_answer, after_event, answered_at, items_answered, items_of_chunk, items_of_section, items_of_test, passed_at}
-use Rattle.c_model.specs.Step.{is_masked, is_passed_over, items_from_next, settled_moment, settled_task, silent, step_at}
-use Rattle.c_model.specs.Task.{Here, Item, Moment, OpenCall, Outcome, SharedLoop, Task}
+use Rattle.c_model.specs.AfterEvents.{after_answer, after_event, answered_at, items_answered, items_of_chunk, items_of_section, items_of_test, passed_at}
+use Rattle.c_model.specs.Step.{is_masked, skips_masked, items_from_next, settled_moment, settled_task, silent, step_at}
+use Rattle.c_model.specs.Task.{StepStart, Item, Moment, OpenCall, Outcome, SharedLoop, Task}
 use Rattle.c_model.specs.Task.Item.{Start, Forked, NextChunk, NextSection, EndWork, Sync, TestLock}
 use Rattle.c_model.specs.Task.Outcome.{StepsTo, Occurs, Ends}
 use Rattle.c_brackets.specs.Effects.{Effect, LeadsTo, effect_of}
@@ -59,7 +59,7 @@ settled-start true tree items settled goes =
 settled-start false tree items settled goes = goes-same (Start tree ∷ items)
 
 settled-by : (view : View) (item : Item) (items settled : List Item) → GoesOn settled items
-    → GoesOn (if is_passed_over item view then settled else item ∷ items) (item ∷ items)
+    → GoesOn (if skips_masked item view then settled else item ∷ items) (item ∷ items)
 settled-by view (Start tree) items settled goes = settled-start (is_masked (kind_of tree) && not (view.index == 0)) tree items settled goes
 settled-by view other items settled goes = goes-same (other ∷ items)
 
@@ -76,7 +76,7 @@ pub settled_same : (view : View) (task : Task) → IsOrderly task → open_task 
 settled_same view task is = ap (λ (opened : List Open). opened ++ open_calls task.calls) ((settled-items view task.todo).same is.now)
 
 -- steps and events
-abbrev pub here_at : TreeView → View → Moment → List Item → Here
+abbrev pub here_at : TreeView → View → Moment → List Item → StepStart
 here_at program view now items = record { program = program; view = view; task = record now.task { todo = items }; store = now.store }
 
 pub turned : (program : TreeView) (view : View) (now : Moment) (item : Item) (items : List Item) (outcome : Outcome) → HasReturnsOutside program

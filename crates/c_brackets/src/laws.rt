@@ -10,7 +10,7 @@ ghost use Rattle.c_model.specs.declared.point.Point.TheVariants.{TaskCreate};
 ghost use Rattle.c_model.specs.declared.question.Answer.{Answer as Given};
 ghost use Rattle.c_model.specs.Begin.{explicit_task, main_task, member_task};
 ghost use Rattle.c_model.specs.Formed.{IsProgramFormed};
-ghost use Rattle.c_model.specs.Going.{after_answer, after_event};
+ghost use Rattle.c_model.specs.AfterEvents.{after_answer, after_event};
 ghost use Rattle.c_model.specs.Step.{settled_task, silent};
 ghost use Rattle.c_model.specs.Task.{Moment, Task};
 ghost use Rattle.c_model.specs.Task.Outcome.{Ends, Occurs, StepsTo};

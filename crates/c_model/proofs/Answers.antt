@@ -7,7 +7,7 @@ use Rattle.c_model.specs.declared.view.View.{View}
 use Rattle.c_model.specs.Answers.{Answers, AnswersFirst, AnswersItem, AsksFor, IsChunkAnswer, IsLockAnswer, IsSectionAnswer}
 use Rattle.c_model.specs.Constructs.{next_chunk}
 use Rattle.c_model.specs.Step.{items_from_next, silent, step_at, step_of}
-use Rattle.c_model.specs.Task.{Here, Item, Moment, SharedLoop}
+use Rattle.c_model.specs.Task.{StepStart, Item, Moment, SharedLoop}
 use Rattle.c_model.specs.Task.Item.{Start, Declare, Leave, Test, Third, Initialise, Return, FallOff, Forked, Inside, MakeCells, NextChunk, Iterations, NextSection, Combine, EndWork, EndMasked, Sync, Acquire, Release, TestLock, Tested}
 
 asked-chunk : (loop : SharedLoop) (given : Answer) → IsChunkAnswer loop.count given → AsksFor (next_chunk loop) given
@@ -16,7 +16,7 @@ asked-chunk loop (answer.Chunk chunk) is = tt
 asked-chunk loop (answer.Section section) is = absurd is
 asked-chunk loop (answer.Free free) is = absurd is
 
-asked-item : (item : Item) (given : Answer) (here : Here) → AnswersItem item given → AsksFor (step_of item here) given
+asked-item : (item : Item) (given : Answer) (here : StepStart) → AnswersItem item given → AsksFor (step_of item here) given
 unfolding AnswersItem IsChunkAnswer IsSectionAnswer IsLockAnswer AsksFor
 asked-item (NextChunk loop) given here is = asked-chunk loop given is
 asked-item (NextSection construct names) (answer.Section section) here is = tt

@@ -23,10 +23,10 @@ use Rattle.c_model.specs.declared.view.View.{View}
 use Rattle.c_model.specs.Answers.{AnswersFirst, AnswersItem, IsChunkAnswer, IsLockAnswer, IsSectionAnswer}
 use Rattle.c_model.specs.Cells.{Bound}
 use Rattle.c_model.specs.Clauses.{sections_of}
-use Rattle.c_model.specs.Coming.{binds, with_result}
+use Rattle.c_model.specs.StepOutcomes.{binds, with_result}
 use Rattle.c_model.specs.Calls.{begin_call, begin_right, begin_lock_call, begin_return_of, enters, returns_to}
 use Rattle.c_model.specs.Statements.{begin_local_set, declares, makes_first_step, makes_step}
-use Rattle.c_model.specs.Task.{Here, Item, Moment, OpenCall, Outcome, SharedLoop}
+use Rattle.c_model.specs.Task.{StepStart, Item, Moment, OpenCall, Outcome, SharedLoop}
 use Rattle.c_model.specs.Task.Item.{Start, Declare, Leave, Test, Third, Initialise, Return, FallOff, Forked, Inside, MakeCells, NextChunk, Iterations, NextSection, Combine, EndWork, EndMasked, Sync, Acquire, Release, TestLock, Tested}
 use Rattle.c_model.specs.Task.Outcome.{StepsTo, Asks, Occurs, Ends, Traps, Limits}
 use Rattle.c_model.specs.Step.{begin_construct, begin_inside, begin_standalone, begin_statement, items_from_next, settled_task, silent, step_at, step_of}
@@ -62,51 +62,51 @@ no-either : (choice : Bool) (one other : Outcome) → AsksNothing one → AsksNo
 no-either true one other first second = first
 no-either false one other first second = second
 
-no-returns : (calls : List OpenCall) (here : Here) (number : ℤ) → AsksNothing (returns_to calls here number)
+no-returns : (calls : List OpenCall) (here : StepStart) (number : ℤ) → AsksNothing (returns_to calls here number)
 no-returns [] here number = no-step _
 no-returns (call ∷ calls) here number = no-step _
 
-no-binds : (here : Here) (bound : Bound) (items : List Item) → AsksNothing (binds here bound items)
+no-binds : (here : StepStart) (bound : Bound) (items : List Item) → AsksNothing (binds here bound items)
 no-binds here bound items = search (no-either, no-limit, no-step)
 
-no-enters : (here : Here) (function : Tree) (call : OpenCall) (bound : Bound) → AsksNothing (enters here function call bound)
+no-enters : (here : StepStart) (function : Tree) (call : OpenCall) (bound : Bound) → AsksNothing (enters here function call bound)
 no-enters here function call bound = search (no-either, no-limit, no-step)
 
-no-call : (here : Here) (call : Tree) (env : List Entry) (to : Target) → AsksNothing (begin_call here call env to)
+no-call : (here : StepStart) (call : Tree) (env : List Entry) (to : Target) → AsksNothing (begin_call here call env to)
 no-call here call env to = search (no-result, no-enters)
 
-no-right : (kind : NodeKind) (here : Here) (call : Tree) (env : List Entry) (to : Target) → AsksNothing (begin_right kind here call env to)
+no-right : (kind : NodeKind) (here : StepStart) (call : Tree) (env : List Entry) (to : Target) → AsksNothing (begin_right kind here call env to)
 no-right node.TestLock here call env to = no-event _ _
 no-right other here call env to = no-call here call env to
 
 ruleset no-question = (no-step, no-event, no-end, no-limit, no-result, no-either, no-binds, no-call, no-right, no-returns)
 
-no-step-of : (kind : NodeKind) (here : Here) (tree : Tree) (items : List Item) → AsksNothing (makes_step kind here tree items)
+no-step-of : (kind : NodeKind) (here : StepStart) (tree : Tree) (items : List Item) → AsksNothing (makes_step kind here tree items)
 no-step-of (node.Assign which) here tree items = search no-question
 no-step-of (node.Bump which side) here tree items = search no-question
 no-step-of other here tree items = no-step _
 
-no-first-step : (kind : NodeKind) (here : Here) (tree : Tree) (items : List Item) → AsksNothing (makes_first_step kind here tree items)
+no-first-step : (kind : NodeKind) (here : StepStart) (tree : Tree) (items : List Item) → AsksNothing (makes_first_step kind here tree items)
 no-first-step node.Init here tree items = search no-question
 no-first-step other here tree items = no-step-of other here tree items
 
-no-return : (kind : NodeKind) (here : Here) (tree : Tree) → AsksNothing (begin_return_of kind here tree)
+no-return : (kind : NodeKind) (here : StepStart) (tree : Tree) → AsksNothing (begin_return_of kind here tree)
 no-return node.Call here tree = no-call here tree here.task.env target.Return
 no-return node.TestLock here tree = no-event _ _
 no-return other here tree = search no-question
 
-no-lock : (which : LockCall) (here : Here) (tree : Tree) → AsksNothing (begin_lock_call which here tree)
+no-lock : (which : LockCall) (here : StepStart) (tree : Tree) → AsksNothing (begin_lock_call which here tree)
 no-lock lock.Init here tree = no-event _ _
 no-lock lock.Destroy here tree = no-event _ _
 no-lock lock.Set here tree = no-event _ _
 no-lock lock.Unset here tree = no-event _ _
 
-no-local : (kind : NodeKind) (here : Here) (tree : Tree) → AsksNothing (begin_local_set kind here tree)
+no-local : (kind : NodeKind) (here : StepStart) (tree : Tree) → AsksNothing (begin_local_set kind here tree)
 no-local node.Call here tree = search no-question
 no-local node.TestLock here tree = search no-question
 no-local other here tree = search no-question
 
-no-declares : (kind : NodeKind) (here : Here) (tree : Tree) → AsksNothing (declares kind here tree)
+no-declares : (kind : NodeKind) (here : StepStart) (tree : Tree) → AsksNothing (declares kind here tree)
 no-declares node.LocalSet here tree = no-local (kind_of (child_at tree 0)) here tree
 no-declares other here tree = search no-question
 
@@ -114,7 +114,7 @@ no-standalone : (which : Standalone) (tree : Tree) → AsksNothing (begin_standa
 no-standalone standalone.Barrier tree = no-event _ _
 no-standalone standalone.Taskwait tree = no-event _ _
 
-no-construct : (which : Directive) (here : Here) (tree : Tree) → AsksNothing (begin_construct which here tree)
+no-construct : (which : Directive) (here : StepStart) (tree : Tree) → AsksNothing (begin_construct which here tree)
 no-construct directive.Parallel here tree = search no-question
 no-construct directive.For here tree = search no-question
 no-construct directive.Sections here tree = no-event _ _
@@ -126,12 +126,12 @@ no-construct directive.Master here tree = no-event _ _
 no-construct directive.Critical here tree = no-event _ _
 no-construct directive.Task here tree = search no-question
 
-no-inside : (kind : NodeKind) (here : Here) (tree : Tree) → AsksNothing (begin_inside kind here tree)
+no-inside : (kind : NodeKind) (here : StepStart) (tree : Tree) → AsksNothing (begin_inside kind here tree)
 no-inside (node.Construct directive.ParallelFor) here tree = search no-question
 no-inside (node.Construct directive.ParallelSections) here tree = no-event _ _
 no-inside other here tree = no-step _
 
-no-statement : (kind : NodeKind) (here : Here) (tree : Tree) → AsksNothing (begin_statement kind here tree)
+no-statement : (kind : NodeKind) (here : StepStart) (tree : Tree) → AsksNothing (begin_statement kind here tree)
 no-statement node.If here tree = search no-question
 no-statement node.While here tree = search no-question
 no-statement node.For here tree = no-first-step (kind_of (child_at tree 0)) here (child_at tree 0) (Test tree (length here.task.env) ∷ [])
@@ -159,7 +159,7 @@ of-nothing items (Ends number) none = tt
 of-nothing items (Traps trap) none = tt
 of-nothing items (Limits limit) none = tt
 
-asked-by : (item : Item) (here : Here) (items : List Item) → IsAskedBy (item ∷ items) (step_of item here)
+asked-by : (item : Item) (here : StepStart) (items : List Item) → IsAskedBy (item ∷ items) (step_of item here)
 unfolding IsAskedBy IsAskOfNext IsAskOf
 asked-by (NextChunk loop) here items = refl
 asked-by (NextSection construct names) here items = refl
@@ -192,7 +192,7 @@ asked-first (item ∷ items) program view now =
     asked-by item (record { program = program; view = view; task = record now.task { todo = items }; store = now.store }) items
 
 -- what an item's step asks, this item asks
-pub question_is_of_item : (item : Item) (here : Here) (ask : Ask) (tree : Tree) → step_of item here ≡ Asks ask tree → IsAskOf ask tree item
+pub question_is_of_item : (item : Item) (here : StepStart) (ask : Ask) (tree : Tree) → step_of item here ≡ Asks ask tree → IsAskOf ask tree item
 unfolding IsAskedBy IsAskOfNext
 question_is_of_item item here ask tree is = subst (IsAskedBy (item ∷ [])) is (asked-by item here [])
 

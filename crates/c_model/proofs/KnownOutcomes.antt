@@ -18,9 +18,9 @@ use Rattle.c_model.specs.declared.point.Target.TheVariants as target
 use Rattle.c_model.specs.declared.view.View.{View}
 use Rattle.c_model.specs.declared.entry.Entry.{Entry}
 use Rattle.c_model.specs.Cells.{Bound}
-use Rattle.c_model.specs.Coming.{binds, with_result}
+use Rattle.c_model.specs.StepOutcomes.{binds, with_result}
 use Rattle.c_model.specs.Calls.{begin_call, begin_right, begin_lock_call, begin_return_of, enters, returns_to}
-use Rattle.c_model.specs.Task.{Here, Item, Moment, OpenCall, Outcome}
+use Rattle.c_model.specs.Task.{StepStart, Item, Moment, OpenCall, Outcome}
 use Rattle.c_model.specs.Task.Item.{Start, Declare, Leave, Test, Third, Initialise, Return, FallOff, Forked, Inside, MakeCells, NextChunk, Iterations, NextSection, Combine, EndWork, EndMasked, Sync, Acquire, Release, TestLock, Tested}
 use Rattle.c_model.specs.Task.Outcome.{StepsTo, Asks, Occurs, Ends, Limits}
 use Rattle.std.specs.Prelude.{Option, Some, None, refl}
@@ -31,11 +31,11 @@ use Rattle.c_syntax.specs.declared.node.Setting.{Setting}
 use Rattle.c_syntax.specs.declared.node.Setting.TheVariants as setting
 use Rattle.c_syntax.specs.declared.node.BinaryOp.TheVariants as binary
 use Rattle.c_model.specs.Parts.{has_child}
-use Rattle.c_model.specs.Coming.{scope_of, value_here}
+use Rattle.c_model.specs.StepOutcomes.{scope_of, value_here}
 use Rattle.c_model.specs.Statements.{begin_local_set, declares, makes_first_step, makes_step, new_number, test_value}
 use Rattle.c_model.specs.Constructs.{reduction_result, value_or}
 use Rattle.c_model.specs.Step.{begin_construct, begin_inside, begin_standalone, begin_statement, items_from_next, silent, step_at, step_of}
-use Rattle.c_model.specs.Known.{IsKnown, IsLimit}
+use Rattle.c_model.specs.TrapsAndLimits.{IsKnown, IsLimit}
 use Rattle.c_model.proofs.KnownValues.{IsKnownResult, known-all, known-both, known-cell-of, known-choice, known-err, known-ok, known-value, overflow}
 
 known-step : (next : Moment) → IsKnown (StepsTo next)
@@ -76,20 +76,20 @@ known-either : (choice : Bool) (one other : Outcome) → IsKnown one → IsKnown
 known-either true one other first second = first
 known-either false one other first second = second
 
-known-returns : (calls : List OpenCall) (here : Here) (number : ℤ) → IsKnown (returns_to calls here number)
+known-returns : (calls : List OpenCall) (here : StepStart) (number : ℤ) → IsKnown (returns_to calls here number)
 known-returns [] here number = known-step _
 known-returns (call ∷ calls) here number = known-step _
 
-known-binds : (here : Here) (bound : Bound) (items : List Item) → IsKnown (binds here bound items)
+known-binds : (here : StepStart) (bound : Bound) (items : List Item) → IsKnown (binds here bound items)
 known-binds here bound items = search (known-either, cells, known-step)
 
-known-enters : (here : Here) (function : Tree) (call : OpenCall) (bound : Bound) → IsKnown (enters here function call bound)
+known-enters : (here : StepStart) (function : Tree) (call : OpenCall) (bound : Bound) → IsKnown (enters here function call bound)
 known-enters here function call bound = search (known-either, cells, calls, known-step)
 
-known-call : (here : Here) (call : Tree) (env : List Entry) (to : Target) → IsKnown (begin_call here call env to)
+known-call : (here : StepStart) (call : Tree) (env : List Entry) (to : Target) → IsKnown (begin_call here call env to)
 known-call here call env to = search (known-result, known-all, known-enters)
 
-known-right : (kind : NodeKind) (here : Here) (call : Tree) (env : List Entry) (to : Target) → IsKnown (begin_right kind here call env to)
+known-right : (kind : NodeKind) (here : StepStart) (call : Tree) (env : List Entry) (to : Target) → IsKnown (begin_right kind here call env to)
 known-right node.TestLock here call env to = known-event _ _
 known-right other here call env to = known-call here call env to
 
@@ -101,10 +101,10 @@ known-new setting.Multiply held right is = known-both binary.Multiply (Ok held) 
 known-new setting.Divide held right is = known-both binary.Divide (Ok held) right (known-ok held) is
 known-new setting.Remainder held right is = known-both binary.Remainder (Ok held) right (known-ok held) is
 
-known-test : (here : Here) (tree : Tree) → IsKnownResult (test_value here tree)
+known-test : (here : StepStart) (tree : Tree) → IsKnownResult (test_value here tree)
 known-test here tree = known-choice (has_child tree 1) (value_here here (child_at tree 1)) (Ok (pos 1)) (known-value (scope_of here) (child_at tree 1)) (known-ok _)
 
-known-or : (other : ℤ) (here : Here) (expression : Option Tree) → IsKnownResult (value_or other here expression)
+known-or : (other : ℤ) (here : StepStart) (expression : Option Tree) → IsKnownResult (value_or other here expression)
 known-or other here None = known-ok _
 known-or other here (Some expression) = known-value (scope_of here) expression
 
@@ -116,32 +116,32 @@ known-reduction reduction.Min around own = known-ok _
 
 ruleset known = (known-step, known-question, known-event, known-end, known-result, known-either, known-binds, known-call, known-right, known-returns, known-value, known-all, known-cell-of, known-new, known-test, known-or, known-reduction, known-ok, cells, calls, text)
 
-known-step-of : (kind : NodeKind) (here : Here) (tree : Tree) (items : List Item) → IsKnown (makes_step kind here tree items)
+known-step-of : (kind : NodeKind) (here : StepStart) (tree : Tree) (items : List Item) → IsKnown (makes_step kind here tree items)
 known-step-of (node.Assign which) here tree items = search known
 known-step-of (node.Bump which side) here tree items = search known
 known-step-of other here tree items = known-step _
 
-known-first-step : (kind : NodeKind) (here : Here) (tree : Tree) (items : List Item) → IsKnown (makes_first_step kind here tree items)
+known-first-step : (kind : NodeKind) (here : StepStart) (tree : Tree) (items : List Item) → IsKnown (makes_first_step kind here tree items)
 known-first-step node.Init here tree items = search known
 known-first-step other here tree items = known-step-of other here tree items
 
-known-return : (kind : NodeKind) (here : Here) (tree : Tree) → IsKnown (begin_return_of kind here tree)
+known-return : (kind : NodeKind) (here : StepStart) (tree : Tree) → IsKnown (begin_return_of kind here tree)
 known-return node.Call here tree = known-call here tree here.task.env target.Return
 known-return node.TestLock here tree = known-event _ _
 known-return other here tree = search known
 
-known-lock : (which : LockCall) (here : Here) (tree : Tree) → IsKnown (begin_lock_call which here tree)
+known-lock : (which : LockCall) (here : StepStart) (tree : Tree) → IsKnown (begin_lock_call which here tree)
 known-lock lock.Init here tree = known-event _ _
 known-lock lock.Destroy here tree = known-event _ _
 known-lock lock.Set here tree = known-event _ _
 known-lock lock.Unset here tree = known-event _ _
 
-known-local : (kind : NodeKind) (here : Here) (tree : Tree) → IsKnown (begin_local_set kind here tree)
+known-local : (kind : NodeKind) (here : StepStart) (tree : Tree) → IsKnown (begin_local_set kind here tree)
 known-local node.Call here tree = search known
 known-local node.TestLock here tree = search known
 known-local other here tree = search known
 
-known-declares : (kind : NodeKind) (here : Here) (tree : Tree) → IsKnown (declares kind here tree)
+known-declares : (kind : NodeKind) (here : StepStart) (tree : Tree) → IsKnown (declares kind here tree)
 known-declares node.LocalSet here tree = known-local (kind_of (child_at tree 0)) here tree
 known-declares other here tree = search known
 
@@ -149,7 +149,7 @@ known-standalone : (which : Standalone) (tree : Tree) → IsKnown (begin_standal
 known-standalone standalone.Barrier tree = known-event _ _
 known-standalone standalone.Taskwait tree = known-event _ _
 
-known-construct : (which : Directive) (here : Here) (tree : Tree) → IsKnown (begin_construct which here tree)
+known-construct : (which : Directive) (here : StepStart) (tree : Tree) → IsKnown (begin_construct which here tree)
 known-construct directive.Parallel here tree = search known
 known-construct directive.For here tree = search known
 known-construct directive.Sections here tree = known-event _ _
@@ -161,12 +161,12 @@ known-construct directive.Master here tree = known-event _ _
 known-construct directive.Critical here tree = known-event _ _
 known-construct directive.Task here tree = search known
 
-known-inside : (kind : NodeKind) (here : Here) (tree : Tree) → IsKnown (begin_inside kind here tree)
+known-inside : (kind : NodeKind) (here : StepStart) (tree : Tree) → IsKnown (begin_inside kind here tree)
 known-inside (node.Construct directive.ParallelFor) here tree = search known
 known-inside (node.Construct directive.ParallelSections) here tree = known-event _ _
 known-inside other here tree = known-step _
 
-known-statement : (kind : NodeKind) (here : Here) (tree : Tree) → IsKnown (begin_statement kind here tree)
+known-statement : (kind : NodeKind) (here : StepStart) (tree : Tree) → IsKnown (begin_statement kind here tree)
 known-statement node.Empty here tree = known-step _
 known-statement node.Block here tree = known-step _
 known-statement node.If here tree = search known
@@ -182,7 +182,7 @@ known-statement (node.Standalone which) here tree = known-standalone which tree
 known-statement (node.Construct which) here tree = known-construct which here tree
 known-statement other here tree = known-step _
 
-known-item : (item : Item) (here : Here) → IsKnown (step_of item here)
+known-item : (item : Item) (here : StepStart) → IsKnown (step_of item here)
 known-item (Start tree) here = known-statement (kind_of tree) here tree
 known-item (Declare tree) here = known-declares (kind_of tree) here tree
 known-item (Leave names) here = known-step _

@@ -15,7 +15,7 @@ use Rattle.c_model.specs.Parts.{has_child}
 use Rattle.c_model.specs.declared.entry.Entry.{Entry}
 use Rattle.c_model.specs.Cells.{entry_of}
 use Rattle.c_model.specs.Value.{Scope, all_values, binary_result, binary_value, cell_of, deciding_value, element, index_of, node_value, operand_value, place_cell, unary_value, value, value_at, value_before, value_of_cell, value_unless, values, with_right}
-use Rattle.c_model.specs.Known.{IsTrap}
+use Rattle.c_model.specs.TrapsAndLimits.{IsTrap}
 
 unfoldable pub IsKnownResult : {A : Type 0} → Result A ℕ → Type 0
 IsKnownResult (Ok result) = Unit {0}

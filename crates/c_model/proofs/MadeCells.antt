@@ -22,7 +22,7 @@ use Rattle.c_model.specs.Clauses.{Copying, Listed}
 use Rattle.c_model.specs.Clauses.Copying.{Private, First, Reduced}
 use Rattle.c_model.specs.Copies.{copied_numbers, is_loop, loop_slot, listed_variables, with_copy, with_listed, with_own_cells, with_slots, with_task_cells}
 use Rattle.c_model.specs.Loops.{loop_of}
-use Rattle.c_model.specs.Made.{AreItemsMade, IsCallMade, IsItemMade, IsMade, IsTargetMade, IsTaskMade, slots_of}
+use Rattle.c_model.specs.UsedCells.{AreItemsMade, IsCallMade, IsItemMade, IsMade, IsTargetMade, IsTaskMade, slots_of}
 use Rattle.c_model.specs.Scoped.{HasCells, Sees, SeesEach, names_of}
 use Rattle.c_model.specs.Task.{Item, OpenCall, Task}
 use Rattle.c_model.specs.Task.Item.{Initialise, TestLock, Tested}

@@ -37,16 +37,16 @@ use Rattle.c_model.specs.Calls.{begin_lock_call}
 use Rattle.c_model.specs.Cells.{Bound, cell_at, entry_of, first_numbers, with_cells}
 use Rattle.c_model.specs.Clauses.{Copying, Listed, condition_of, has_nowait, requested_threads}
 use Rattle.c_model.specs.Clauses.Copying.{Private, First, Reduced}
-use Rattle.c_model.specs.Coming.{binds, bound_of, goes_on, goes_on_with, scope_of, sets, value_here, with_result}
+use Rattle.c_model.specs.StepOutcomes.{binds, bound_of, goes_on, goes_on_with, scope_of, sets, value_here, with_result}
 use Rattle.c_model.specs.Constructs.{begin_loop, begin_parallel, iterations_from, reduction_result, value_or}
 use Rattle.c_model.specs.Copies.{combines, combining_all, combining_of, has_own_cells, listed_variables, makes_cells, with_own_cells}
-use Rattle.c_model.specs.Going.{items_after, names_after, next_stage, tree_at_event, work_items}
+use Rattle.c_model.specs.AfterEvents.{items_after, names_after, next_stage, tree_at_event, work_items}
 use Rattle.c_model.specs.Loops.{iteration_value, loop_of}
-use Rattle.c_model.specs.Made.{AreItemsMade, IsCallMade, IsItemMade, IsMade, IsTargetMade, IsTaskMade}
+use Rattle.c_model.specs.UsedCells.{AreItemsMade, IsCallMade, IsItemMade, IsMade, IsTargetMade, IsTaskMade}
 use Rattle.c_model.specs.Scoped.{HasCells, Knows, names_of}
 use Rattle.c_model.specs.Statements.{assigns, begin_local_set, begin_set_to_call, begin_set_to_value, branch_taken, declares, makes_first_step, makes_step, new_number, setting_of, test_value}
 use Rattle.c_model.specs.Step.{begin_construct, begin_inside, begin_standalone, begin_statement, step_of}
-use Rattle.c_model.specs.Task.{Here, Item, Moment, OpenCall, Outcome, SharedLoop, is_declarator, items_of_parts}
+use Rattle.c_model.specs.Task.{StepStart, Item, Moment, OpenCall, Outcome, SharedLoop, is_declarator, items_of_parts}
 use Rattle.c_model.specs.Task.Item.{Start, Declare, Leave, Test, Third, Initialise, Return, FallOff, Forked, Inside, MakeCells, NextChunk, Iterations, NextSection, Combine, EndWork, EndMasked, Sync, Acquire, Release, TestLock, Tested}
 use Rattle.c_model.specs.Task.Outcome.{StepsTo, Occurs, Limits}
 use Rattle.c_model.specs.Value.{all_values, cell_of, is_zero}
@@ -54,20 +54,20 @@ use Rattle.c_model.proofs.MadeCells.{IsBoundMade, assigned_made, call_more, call
 use Rattle.c_model.proofs.ScopeComing.{IsRoomFor}
 
 -- what comes of an event
-pub record LeavesMade (here : Here) (item : Item) (point : Point) : Type 0 where
+pub record LeavesMade (here : StepStart) (item : Item) (point : Point) : Type 0 where
   pub items : (executes : Bool) → AreItemsMade (length here.store.cells) (items_after point executes (length here.task.env) item)
   pub env : All (IsMade (length here.store.cells)) (names_after point item here.task.env)
 
-pub record StaysMade (here : Here) (next : Moment) : Type 0 where
+pub record StaysMade (here : StepStart) (next : Moment) : Type 0 where
   pub task : IsTaskMade here.program (length next.store.cells) next.task
   pub grows : length here.store.cells ≤ length next.store.cells
 
-unfoldable pub KeepsMade : Here → Item → Outcome → Type 0
+unfoldable pub KeepsMade : StepStart → Item → Outcome → Type 0
 KeepsMade here item (StepsTo next) = StaysMade here next
 KeepsMade here item (Occurs point tree) = LeavesMade here item point
 KeepsMade here item other = Unit {0}
 
-pub record HasMade (here : Here) (item : Item) : Type 0 where
+pub record HasMade (here : StepStart) (item : Item) : Type 0 where
   pub scoped : IsRoomFor here item
   pub task : IsTaskMade here.program (length here.store.cells) here.task
   pub its : IsItemMade (length here.store.cells) item
@@ -145,7 +145,7 @@ declared-has program names (Node node.LocalArray spot name number text children)
 declared-has program names (Node node.GlobalArray spot name number text children) knows = omega (arith, length-replicate number (pos 0), knows.0)
 declared-has program names (Node other spot name number text children) knows = omega arith
 
-module _ (here : Here) (item : Item) (has : HasMade here item) where
+module _ (here : StepStart) (item : Item) (has : HasMade here item) where
   -- outcomes
   made-limit : (limit : ℕ) → KeepsMade here item (Limits limit)
   unfolding KeepsMade
@@ -311,7 +311,7 @@ module _ (here : Here) (item : Item) (has : HasMade here item) where
   made-first other tree items are = made-makes other tree items (are (length here.store.cells))
 
 -- the work of a construct begins
-begun-made : (here : Here) (item : Item) (construct : Tree) (codeptr : ℕ) (kind : Work) → HasMade here item → KeepsMade here item (Occurs (WorkBegin codeptr kind) construct)
+begun-made : (here : StepStart) (item : Item) (construct : Tree) (codeptr : ℕ) (kind : Work) → HasMade here item → KeepsMade here item (Occurs (WorkBegin codeptr kind) construct)
 begun-made here item construct codeptr kind has =
     let count = length here.store.cells in
     let tree = tree_at_event item in
@@ -320,13 +320,13 @@ begun-made here item construct codeptr kind has =
       env = has.task.env;
     })
 
-made-loop : (here : Here) (item : Item) (construct : Tree) → HasMade here item → KeepsMade here item (begin_loop here construct)
+made-loop : (here : StepStart) (item : Item) (construct : Tree) → HasMade here item → KeepsMade here item (begin_loop here construct)
 made-loop here item construct has =
     made-result here item has (value_here here (loop_of construct).start) _ (λ start found.
     made-result here item has (value_here here (loop_of construct).end) _ (λ end also. begun-made here item construct _ _ has))
 
 -- statements
-module _ (here : Here) (construct : Tree) (has : HasMade here (Start construct)) where
+module _ (here : StepStart) (construct : Tree) (has : HasMade here (Start construct)) where
   unfolded : (point : Point) → All (IsMade (length here.store.cells)) (names_after point (Start construct) here.task.env) → ((executes : Bool) → AreItemsMade (length here.store.cells) (items_after point executes (length here.task.env) (Start construct))) → KeepsMade here (Start construct) (Occurs point construct)
   unfolded point env items = made-event here (Start construct) has point construct (record { items = items; env = env })
 
@@ -361,7 +361,7 @@ module _ (here : Here) (construct : Tree) (has : HasMade here (Start construct))
   made-lock lock.Set = unfolded _ has.task.env (λ executes. (tt, tt))
   made-lock lock.Unset = unfolded _ has.task.env (λ executes. tt)
 
-made-statement : (here : Here) (tree : Tree) → HasMade here (Start tree) → KeepsMade here (Start tree) (begin_statement (kind_of tree) here tree)
+made-statement : (here : StepStart) (tree : Tree) → HasMade here (Start tree) → KeepsMade here (Start tree) (begin_statement (kind_of tree) here tree)
 unfolding Knows AreItemsMade
 made-statement here (Node node.Block spot name number text children) has =
     let tree = Node node.Block spot name number text children in
@@ -400,13 +400,13 @@ made-statement here (Node (node.Standalone which) spot name number text children
 made-statement here (Node (node.Construct which) spot name number text children) has = made-construct here (Node (node.Construct which) spot name number text children) has which
 made-statement here (Node kind spot name number text children) has = made-on here (Start (Node kind spot name number text children)) has [] tt
 
-made-inside : (here : Here) (kind : NodeKind) (construct : Tree) → HasMade here (Inside construct) → KeepsMade here (Inside construct) (begin_inside kind here construct)
+made-inside : (here : StepStart) (kind : NodeKind) (construct : Tree) → HasMade here (Inside construct) → KeepsMade here (Inside construct) (begin_inside kind here construct)
 unfolding AreItemsMade
 made-inside here (node.Construct directive.ParallelFor) construct has = made-loop here (Inside construct) construct has
 made-inside here (node.Construct directive.ParallelSections) construct has = begun-made here (Inside construct) construct _ _ has
 made-inside here other construct has = made-on here (Inside construct) has [] tt
 
-pub made_item : (item : Item) (here : Here) → HasMade here item → KeepsMade here item (step_of item here)
+pub made_item : (item : Item) (here : StepStart) → HasMade here item → KeepsMade here item (step_of item here)
 unfolding KeepsMade AreItemsMade
 made_item (Start tree) here has = made-statement here tree has
 made_item (Declare tree) here has = made-declares here (Declare tree) has (kind_of tree) tree (declared-has here.program (names_of here.task.env) tree has.scoped.now.0)

@@ -22,11 +22,11 @@ use Rattle.c_model.specs.Begin.{created_construct, explicit_task, first_store, f
 use Rattle.c_model.specs.Calls.{file_bound}
 use Rattle.c_model.specs.Clauses.{construct_statement, sections_of}
 use Rattle.c_model.specs.Copies.{combines, makes_cells}
-use Rattle.c_model.specs.Going.{after_answer, after_event, answered_at, cells_answered, cells_of_test, items_answered, items_of_chunk, items_of_section, items_of_test, passed_at}
-use Rattle.c_model.specs.Made.{AreCopiesInScope, AreItemsMade, IsCallMade, IsItemMade, IsMade, IsTaskMade}
+use Rattle.c_model.specs.AfterEvents.{after_answer, after_event, answered_at, cells_answered, cells_of_test, items_answered, items_of_chunk, items_of_section, items_of_test, passed_at}
+use Rattle.c_model.specs.UsedCells.{AreCopiesInScope, AreItemsMade, IsCallMade, IsItemMade, IsMade, IsTaskMade}
 use Rattle.c_model.specs.Parts.{flat_declarations}
 use Rattle.c_model.specs.Program.{file_variables}
-use Rattle.c_model.specs.Step.{is_passed_over, items_from_next, settled_moment, settled_task, silent, step_at}
+use Rattle.c_model.specs.Step.{skips_masked, items_from_next, settled_moment, settled_task, silent, step_at}
 use Rattle.c_model.specs.Task.{Item, Moment, Outcome, SharedLoop, Task}
 use Rattle.c_model.specs.Task.Item.{Start, NextChunk, NextSection, EndWork, Sync, TestLock}
 use Rattle.c_model.specs.Task.Outcome.{StepsTo, Occurs}
@@ -39,7 +39,7 @@ use Rattle.c_model.proofs.ScopeTasks.{created_knows, here_at, settled_is_scoped}
 settled-made : (count : ℕ) (view : View) (items : List Item) → AreItemsMade count items → AreItemsMade count (items_from_next view items)
 unfolding AreItemsMade items_from_next
 settled-made count view [] are = tt
-settled-made count view (item ∷ items) are = chosen (is_passed_over item view) (settled-made count view items are.1)
+settled-made count view (item ∷ items) are = chosen (skips_masked item view) (settled-made count view items are.1)
   where
     chosen : (passed : Bool) → AreItemsMade count (items_from_next view items) → AreItemsMade count (if passed then items_from_next view items else item ∷ items)
     chosen true rest = rest

@@ -20,16 +20,16 @@ use Rattle.c_model.specs.declared.point.Target.{Target}
 use Rattle.c_model.specs.declared.point.Target.TheVariants as target
 use Rattle.c_model.specs.declared.view.View.{View}
 use Rattle.c_model.specs.Program.{place_of}
-use Rattle.c_model.specs.Coming.{scope_of, value_here, with_result}
+use Rattle.c_model.specs.StepOutcomes.{scope_of, value_here, with_result}
 use Rattle.c_model.specs.Value.{cell_of, is_zero}
 use Rattle.c_model.specs.declared.limits.TheConstants.{CELLS}
 use Rattle.c_model.specs.declared.point.Work.{Work}
 use Rattle.c_model.specs.Calls.{begin_call, begin_lock_call, begin_return_of, begin_right, lock_id}
-use Rattle.c_model.specs.Going.{call_in}
+use Rattle.c_model.specs.AfterEvents.{call_in}
 use Rattle.c_model.specs.Clauses.{condition_of, requested_threads}
 use Rattle.c_model.specs.Constructs.{begin_loop, begin_parallel, begin_task, value_or}
 use Rattle.c_model.specs.Loops.{loop_of}
-use Rattle.c_model.specs.Task.{Here, Item, Moment, Outcome}
+use Rattle.c_model.specs.Task.{StepStart, Item, Moment, Outcome}
 use Rattle.c_model.specs.Task.Item.{Start, Initialise, Forked, Inside, EndWork, EndMasked, Sync, Acquire, Release}
 use Rattle.c_model.specs.Task.Outcome.{StepsTo, Asks, Occurs, Ends, Traps, Limits}
 use Rattle.c_model.specs.Step.{begin_construct, begin_inside, begin_standalone, begin_statement, items_from_next, settled_task, silent, step_at, step_of}
@@ -70,16 +70,16 @@ of-event point tree item items is at = record { is_of = is; is_at = at }
 at-call : (kind : NodeKind) (tree : Tree) → kind_of tree ≡ kind → IsTreeOf (call_in kind tree) (Start tree)
 at-call kind tree is = ap (λ kind. call_in kind tree) (sym is)
 
-of-right : (kind : NodeKind) (here : Here) (call : Tree) (env : List Entry) (to : Target) (item : Item) (items : List Item) → IsOfItem (MutexAcquire (place_of call) (lock_id here call) mutex.TestLock to) item → IsTreeOf call item → IsEventOf (item ∷ items) (begin_right kind here call env to)
+of-right : (kind : NodeKind) (here : StepStart) (call : Tree) (env : List Entry) (to : Target) (item : Item) (items : List Item) → IsOfItem (MutexAcquire (place_of call) (lock_id here call) mutex.TestLock to) item → IsTreeOf call item → IsEventOf (item ∷ items) (begin_right kind here call env to)
 of-right node.TestLock here call env to item items is at = of-event _ call item items is at
 of-right other here call env to item items is at = of-quiet (item ∷ items) (begin_call here call env to) (fits-call here call env to)
 
-of-return : (kind : NodeKind) (here : Here) (right tree : Tree) (items : List Item) → IsTreeOf right (Start tree) → IsEventOf (Start tree ∷ items) (begin_return_of kind here right)
+of-return : (kind : NodeKind) (here : StepStart) (right tree : Tree) (items : List Item) → IsTreeOf right (Start tree) → IsEventOf (Start tree ∷ items) (begin_return_of kind here right)
 unfolding IsOfItem
 of-return node.TestLock here right tree items at = of-event _ right (Start tree) items tt at
 of-return other here right tree items at = of-quiet (Start tree ∷ items) (begin_return_of other here right) (fits-return other here right)
 
-of-lock : (which : LockCall) (here : Here) (tree : Tree) (items : List Item) → IsTreeOf tree (Start tree) → IsEventOf (Start tree ∷ items) (begin_lock_call which here tree)
+of-lock : (which : LockCall) (here : StepStart) (tree : Tree) (items : List Item) → IsTreeOf tree (Start tree) → IsEventOf (Start tree ∷ items) (begin_lock_call which here tree)
 unfolding IsOfItem
 of-lock lock.Init here tree items at = of-event _ tree (Start tree) items tt at
 of-lock lock.Destroy here tree items at = of-event _ tree (Start tree) items tt at
@@ -91,26 +91,26 @@ unfolding IsOfItem IsFirstStage
 of-standalone standalone.Barrier tree items at = of-event _ tree (Start tree) items tt at
 of-standalone standalone.Taskwait tree items at = of-event _ tree (Start tree) items tt at
 
-of-parallel : (here : Here) (tree : Tree) (items : List Item) → IsTreeOf tree (Start tree) → IsEventOf (Start tree ∷ items) (begin_parallel here tree)
+of-parallel : (here : StepStart) (tree : Tree) (items : List Item) → IsTreeOf tree (Start tree) → IsEventOf (Start tree ∷ items) (begin_parallel here tree)
 unfolding IsOfItem
 of-parallel here tree items at =
     of-result (Start tree ∷ items) (value_or (pos here.view.max) here (requested_threads tree)) _ (λ number. of-event _ tree (Start tree) items tt at)
 
-of-loop : (here : Here) (tree : Tree) (item : Item) (items : List Item) → ((work : Work) → IsOfItem (WorkBegin (place_of tree) work) item) → IsTreeOf tree item → IsEventOf (item ∷ items) (begin_loop here tree)
+of-loop : (here : StepStart) (tree : Tree) (item : Item) (items : List Item) → ((work : Work) → IsOfItem (WorkBegin (place_of tree) work) item) → IsTreeOf tree item → IsEventOf (item ∷ items) (begin_loop here tree)
 of-loop here tree item items is at =
     of-result (item ∷ items) (value_here here (loop_of tree).start) _ (λ start.
     of-result (item ∷ items) (value_here here (loop_of tree).end) _ (λ end. of-event _ tree item items (is _) at))
 
-of-creates : (room : Bool) (here : Here) (tree : Tree) (number : ℤ) (items : List Item) → IsTreeOf tree (Start tree) → IsEventOf (Start tree ∷ items) (if room then Limits CELLS else Occurs (TaskCreate (place_of tree) (is_zero number)) tree)
+of-creates : (room : Bool) (here : StepStart) (tree : Tree) (number : ℤ) (items : List Item) → IsTreeOf tree (Start tree) → IsEventOf (Start tree ∷ items) (if room then Limits CELLS else Occurs (TaskCreate (place_of tree) (is_zero number)) tree)
 unfolding IsEventOf IsOfItem
 of-creates true here tree number items at = tt
 of-creates false here tree number items at = of-event _ tree (Start tree) items tt at
 
-of-task : (here : Here) (tree : Tree) (items : List Item) → IsTreeOf tree (Start tree) → IsEventOf (Start tree ∷ items) (begin_task here tree)
+of-task : (here : StepStart) (tree : Tree) (items : List Item) → IsTreeOf tree (Start tree) → IsEventOf (Start tree ∷ items) (begin_task here tree)
 of-task here tree items at =
     of-result (Start tree ∷ items) (value_or (pos 1) here (condition_of tree)) _ (λ number. of-creates _ here tree number items at)
 
-of-construct : (which : Directive) (here : Here) (tree : Tree) (items : List Item) → IsTreeOf tree (Start tree) → IsEventOf (Start tree ∷ items) (begin_construct which here tree)
+of-construct : (which : Directive) (here : StepStart) (tree : Tree) (items : List Item) → IsTreeOf tree (Start tree) → IsEventOf (Start tree ∷ items) (begin_construct which here tree)
 unfolding IsOfItem
 of-construct directive.Parallel here tree items at = of-parallel here tree items at
 of-construct directive.For here tree items at = of-loop here tree (Start tree) items (λ work. tt) at
@@ -123,13 +123,13 @@ of-construct directive.Master here tree items at = of-event _ tree (Start tree) 
 of-construct directive.Critical here tree items at = of-event _ tree (Start tree) items tt at
 of-construct directive.Task here tree items at = of-task here tree items at
 
-of-inside : (kind : NodeKind) (here : Here) (tree : Tree) (items : List Item) → IsEventOf (Inside tree ∷ items) (begin_inside kind here tree)
+of-inside : (kind : NodeKind) (here : StepStart) (tree : Tree) (items : List Item) → IsEventOf (Inside tree ∷ items) (begin_inside kind here tree)
 unfolding IsEventOf IsOfItem
 of-inside (node.Construct directive.ParallelFor) here tree items = of-loop here tree (Inside tree) items (λ work. tt) refl
 of-inside (node.Construct directive.ParallelSections) here tree items = of-event _ tree (Inside tree) items tt refl
 of-inside other here tree items = tt
 
-of-statement : (kind : NodeKind) (here : Here) (tree : Tree) (items : List Item) → kind_of tree ≡ kind → IsEventOf (Start tree ∷ items) (begin_statement kind here tree)
+of-statement : (kind : NodeKind) (here : StepStart) (tree : Tree) (items : List Item) → kind_of tree ≡ kind → IsEventOf (Start tree ∷ items) (begin_statement kind here tree)
 unfolding IsOfItem
 of-statement node.Return here tree items is =
     of-return (kind_of (child_at tree 0)) here (child_at tree 0) tree items (at-call node.Return tree is)
@@ -143,7 +143,7 @@ of-statement (node.Standalone which) here tree items is = of-standalone which tr
 of-statement (node.Construct which) here tree items is = of-construct which here tree items (at-call (node.Construct which) tree is)
 of-statement other here tree items is = of-quiet (Start tree ∷ items) (begin_statement other here tree) (fits-statement other here tree)
 
-of-item : (item : Item) (here : Here) (items : List Item) → IsEventOf (item ∷ items) (step_of item here)
+of-item : (item : Item) (here : StepStart) (items : List Item) → IsEventOf (item ∷ items) (step_of item here)
 unfolding IsOfItem IsOfTest
 of-item (Start tree) here items = of-statement (kind_of tree) here tree items refl
 of-item (Initialise tree entry) here items =
@@ -163,16 +163,16 @@ of-next [] program view now = tt
 of-next (item ∷ items) program view now =
     of-item item (record { program = program; view = view; task = record now.task { todo = items }; store = now.store }) items
 
-event-of-item : (item : Item) (here : Here) (point : Point) (tree : Tree) → step_of item here ≡ Occurs point tree → IsOfFirst point tree (item ∷ [])
+event-of-item : (item : Item) (here : StepStart) (point : Point) (tree : Tree) → step_of item here ≡ Occurs point tree → IsOfFirst point tree (item ∷ [])
 unfolding IsEventOf
 event-of-item item here point tree is = subst (IsEventOf (item ∷ [])) is (of-item item here [])
 
 -- the event of an item's step is of this item
-pub event_is_of_item : (item : Item) (here : Here) (point : Point) (tree : Tree) → step_of item here ≡ Occurs point tree → IsOfItem point item
+pub event_is_of_item : (item : Item) (here : StepStart) (point : Point) (tree : Tree) → step_of item here ≡ Occurs point tree → IsOfItem point item
 unfolding IsOfNext
 event_is_of_item item here point tree is = (event-of-item item here point tree is).is_of
 
-pub event_is_at_item : (item : Item) (here : Here) (point : Point) (tree : Tree) → step_of item here ≡ Occurs point tree → IsTreeOf tree item
+pub event_is_at_item : (item : Item) (here : StepStart) (point : Point) (tree : Tree) → step_of item here ≡ Occurs point tree → IsTreeOf tree item
 unfolding IsTreeOfNext
 event_is_at_item item here point tree is = (event-of-item item here point tree is).is_at
 

@@ -15,17 +15,17 @@ use Rattle.c_model.specs.Parts.{parts}
 use Rattle.c_model.specs.Program.{body_of, function_named, parameters_of, place_of}
 use Rattle.c_model.specs.Cells.{Bound}
 use Rattle.c_model.specs.Value.{all_values}
-use Rattle.c_model.specs.Coming.{scope_of, value_here}
+use Rattle.c_model.specs.StepOutcomes.{scope_of, value_here}
 use Rattle.c_model.specs.Calls.{begin_call, begin_return_of, begin_right, bound_in, ends_test, enters, file_bound, lock_id, open_call, returns_to}
-use Rattle.c_model.specs.Going.{names_after}
-use Rattle.c_model.specs.Task.{Here, Item, OpenCall}
+use Rattle.c_model.specs.AfterEvents.{names_after}
+use Rattle.c_model.specs.Task.{StepStart, Item, OpenCall}
 use Rattle.c_model.specs.Task.Item.{Start, FallOff}
 use Rattle.c_model.specs.Scoped.{IsCallScoped, IsScoped, Knows, Scoped, names_of}
 use Rattle.c_model.proofs.ScopeBlocks.{value_scoped}
 use Rattle.c_model.proofs.ScopeComing.{IsRoomFor, Keeps, keeps_choice, keeps_event, keeps_limit, keeps_result, keeps_step}
 use Rattle.c_model.proofs.ScopeNames.{parameters_names}
 
-module _ (here : Here) (item : Item) (room : IsRoomFor here item) where
+module _ (here : StepStart) (item : Item) (room : IsRoomFor here item) where
   keeps-enters : (function : Tree) (call : OpenCall) (bound : Bound) → Knows here.program (names_of bound.env) (body_of function) → IsCallScoped here.program call → Keeps here item (enters here function call bound)
   unfolding Scoped
   keeps-enters function call bound knows is =

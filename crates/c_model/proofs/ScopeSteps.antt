@@ -32,14 +32,14 @@ use Rattle.c_model.specs.Cells.{cell_at, entry_of}
 use Rattle.c_model.specs.Value.{all_values, cell_of, is_zero}
 use Rattle.c_model.specs.Calls.{begin_lock_call}
 use Rattle.c_model.specs.Clauses.{condition_of, construct_statement, has_nowait, requested_threads}
-use Rattle.c_model.specs.Coming.{bound_of, goes_on, goes_on_with, scope_of, value_here}
+use Rattle.c_model.specs.StepOutcomes.{bound_of, goes_on, goes_on_with, scope_of, value_here}
 use Rattle.c_model.specs.Constructs.{begin_loop, begin_sections, begin_critical, begin_masked, begin_parallel, begin_single, begin_task, iterations_from, reduction_result, value_or}
 use Rattle.c_model.specs.Copies.{is_loop, makes_cells, with_own_cells}
-use Rattle.c_model.specs.Going.{next_stage, tree_at_event, work_items}
+use Rattle.c_model.specs.AfterEvents.{next_stage, tree_at_event, work_items}
 use Rattle.c_model.specs.Loops.{iteration_value, loop_of}
 use Rattle.c_model.specs.Statements.{assigns, begin_block, begin_for, begin_local_set, begin_set_to_call, begin_set_to_value, branch_taken, declares, makes_first_step, makes_step, new_number, setting_of, test_for, test_value}
 use Rattle.c_model.specs.Step.{begin_inside, begin_standalone, begin_statement, step_of}
-use Rattle.c_model.specs.Task.{Here, Item, items_of_parts}
+use Rattle.c_model.specs.Task.{StepStart, Item, items_of_parts}
 use Rattle.c_model.specs.Task.Item.{Start, Declare, Leave, Test, Third, Initialise, Return, FallOff, Forked, Inside, MakeCells, NextChunk, Iterations, NextSection, Combine, EndWork, EndMasked, Sync, Acquire, Release, TestLock, Tested}
 use Rattle.c_model.specs.Scoped.{IsOpenable, Knows, KnowsConstruct, KnowsEach, KnowsInOrder, KnowsLoop, Scoped, behind_first_part, first_names, names_by_first, names_of, part_names, with_made, with_shared}
 use Rattle.c_model.proofs.ScopeTrees.{knows_at, knows_behind_first, knows_body, knows_section, knows_statement, statements_more}
@@ -49,7 +49,7 @@ use Rattle.c_model.proofs.ScopeComing.{IsRoomFor, Keeps, LeadsOn, keeps_binds, k
 use Rattle.c_model.proofs.ScopeCalls.{keeps_return, keeps_returns, keeps_right, keeps_tested}
 
 -- declarators
-module _ (here : Here) (item : Item) (room : IsRoomFor here item) where
+module _ (here : StepStart) (item : Item) (room : IsRoomFor here item) where
   keeps-set-to-value : (named expression : Tree) (items : List Item) → Scoped here.program (items ++ here.task.todo) (names_of here.task.env ++ name_of named ∷ []) → Keeps here item (begin_set_to_value here named expression items)
   keeps-set-to-value named expression items now =
       keeps_result here item (value_here here expression) _ (λ number. keeps_bound here item (name_of named) (slot_of_name here.program named) (number ∷ []) items now room)
@@ -112,7 +112,7 @@ loop-behind program names (Absent rest) knows = subst (λ (names : List ℕ). Kn
 loop-behind program names (Child first rest) knows = knows.1
 
 -- the work of a construct begins
-begun : (here : Here) (item : Item) (construct : Tree) (codeptr : ℕ) (kind : Work) → tree_at_event item ≡ construct → IsOpenable (names_of here.task.env) construct
+begun : (here : StepStart) (item : Item) (construct : Tree) (codeptr : ℕ) (kind : Work) → tree_at_event item ≡ construct → IsOpenable (names_of here.task.env) construct
     → ((executes : Bool) → Scoped here.program (work_items kind construct (length here.task.env) executes ++ here.task.todo) (with_made (names_of here.task.env) construct)) → LeadsOn here item (WorkBegin codeptr kind)
 begun here item construct codeptr kind is opens each =
     record {
@@ -123,7 +123,7 @@ begun here item construct codeptr kind is opens each =
       creates = tt;
     }
 
-around-made : (here : Here) (construct : Tree) → Scoped here.program here.task.todo (names_of here.task.env) → Scoped here.program here.task.todo (take (length here.task.env) (with_made (names_of here.task.env) construct))
+around-made : (here : StepStart) (construct : Tree) → Scoped here.program here.task.todo (names_of here.task.env) → Scoped here.program here.task.todo (take (length here.task.env) (with_made (names_of here.task.env) construct))
 around-made here construct now =
     subst (λ (names : List ℕ). Scoped here.program here.task.todo names)
     (sym (ap (λ (around : ℕ). take around (with_made (names_of here.task.env) construct)) (sym (names_length here.task.env)) ∙ made_take construct (names_of here.task.env))) now
@@ -132,7 +132,7 @@ shared-in : (shares : Bool) (names : List ℕ) (name : ℕ) → shares ≡ true 
 shared-in true names name is = Contains-push names name
 shared-in false names name is = cc
 
-keeps-loop : (here : Here) (item : Item) (construct : Tree) → tree_at_event item ≡ construct → is_loop construct ≡ true → KnowsConstruct here.program (names_of here.task.env) construct → Scoped here.program here.task.todo (names_of here.task.env) → Keeps here item (begin_loop here construct)
+keeps-loop : (here : StepStart) (item : Item) (construct : Tree) → tree_at_event item ≡ construct → is_loop construct ≡ true → KnowsConstruct here.program (names_of here.task.env) construct → Scoped here.program here.task.todo (names_of here.task.env) → Keeps here item (begin_loop here construct)
 unfolding Scoped
 keeps-loop here item construct is shares knows now =
     let variable = shared-in (is_loop construct) _ (name_of (loop_of construct).variable) shares in
@@ -147,7 +147,7 @@ keeps-loop here item construct is shares knows now =
       around-made here construct now,
     )))))
 
-keeps-sections : (here : Here) (item : Item) (construct : Tree) → tree_at_event item ≡ construct → KnowsConstruct here.program (names_of here.task.env) construct → Scoped here.program here.task.todo (names_of here.task.env) → Keeps here item (begin_sections construct)
+keeps-sections : (here : StepStart) (item : Item) (construct : Tree) → tree_at_event item ≡ construct → KnowsConstruct here.program (names_of here.task.env) construct → Scoped here.program here.task.todo (names_of here.task.env) → Keeps here item (begin_sections construct)
 unfolding Scoped
 keeps-sections here item construct is knows now =
     keeps_event here item _ construct (begun here item construct _ _ is knows.0 (λ executes. (
@@ -159,7 +159,7 @@ keeps-sections here item construct is knows now =
       around-made here construct now,
     )))
 
-single-scoped : (here : Here) (construct : Tree) (executes : Bool) → KnowsConstruct here.program (names_of here.task.env) construct → Scoped here.program here.task.todo (names_of here.task.env)
+single-scoped : (here : StepStart) (construct : Tree) (executes : Bool) → KnowsConstruct here.program (names_of here.task.env) construct → Scoped here.program here.task.todo (names_of here.task.env)
     → Scoped here.program (work_items work.Single construct (length here.task.env) executes ++ here.task.todo) (with_made (names_of here.task.env) construct)
 unfolding Scoped
 single-scoped here construct true knows now = (
@@ -170,7 +170,7 @@ single-scoped here construct true knows now = (
 single-scoped here construct false knows now = around-made here construct now
 
 -- constructs
-module _ (here : Here) (construct : Tree) (is : tree_at_event (Start construct) ≡ construct) (now : Scoped here.program here.task.todo (names_of here.task.env)) where
+module _ (here : StepStart) (construct : Tree) (is : tree_at_event (Start construct) ≡ construct) (now : Scoped here.program here.task.todo (names_of here.task.env)) where
   keeps-parallel : KnowsConstruct here.program (names_of here.task.env) construct → Keeps here (Start construct) (begin_parallel here construct)
   unfolding Scoped
   keeps-parallel knows =
@@ -213,12 +213,12 @@ stage-scoped program tree kind stage.WaitBegin items names now = now
 stage-scoped program tree kind stage.WaitEnd items names now = now
 stage-scoped program tree kind stage.RegionEnd items names now = now
 
-keeps-standalone : (which : Standalone) (here : Here) (tree : Tree) → Scoped here.program here.task.todo (names_of here.task.env) → Keeps here (Start tree) (begin_standalone which tree)
+keeps-standalone : (which : Standalone) (here : StepStart) (tree : Tree) → Scoped here.program here.task.todo (names_of here.task.env) → Keeps here (Start tree) (begin_standalone which tree)
 unfolding Scoped
 keeps-standalone standalone.Barrier here tree now = keeps_event here (Start tree) _ tree (record { leads = λ executes. now; creates = tt })
 keeps-standalone standalone.Taskwait here tree now = keeps_event here (Start tree) _ tree (record { leads = λ executes. now; creates = tt })
 
-keeps-lock : (which : LockCall) (here : Here) (tree : Tree) → Scoped here.program here.task.todo (names_of here.task.env) → Keeps here (Start tree) (begin_lock_call which here tree)
+keeps-lock : (which : LockCall) (here : StepStart) (tree : Tree) → Scoped here.program here.task.todo (names_of here.task.env) → Keeps here (Start tree) (begin_lock_call which here tree)
 unfolding Scoped
 keeps-lock lock.Init here tree now = keeps_event here (Start tree) _ tree (record { leads = λ executes. now; creates = tt })
 keeps-lock lock.Destroy here tree now = keeps_event here (Start tree) _ tree (record { leads = λ executes. now; creates = tt })
@@ -226,7 +226,7 @@ keeps-lock lock.Set here tree now = keeps_event here (Start tree) _ tree (record
 keeps-lock lock.Unset here tree now = keeps_event here (Start tree) _ tree (record { leads = λ executes. now; creates = tt })
 
 -- a statement begins
-keeps-block : (here : Here) (tree : Tree) → IsRoomFor here (Start tree) → KnowsInOrder here.program part_names (names_of here.task.env) (children_of tree) → Keeps here (Start tree) (begin_block here tree)
+keeps-block : (here : StepStart) (tree : Tree) → IsRoomFor here (Start tree) → KnowsInOrder here.program part_names (names_of here.task.env) (children_of tree) → Keeps here (Start tree) (begin_block here tree)
 keeps-block here tree room knows =
     let names : List ℕ = names_of here.task.env in
     keeps_on here (Start tree) (items_of_parts (flat_declarations (parts tree)) ++ Leave (length here.task.env) ∷ [])
@@ -235,7 +235,7 @@ keeps-block here tree room knows =
     (leave_scoped here.program here.task.todo names (length here.task.env) (names_length here.task.env) room.now.1)))
     room
 
-keeps-for : (here : Here) (tree : Tree) → IsRoomFor here (Start tree) → KnowsLoop here.program (names_of here.task.env) (children_of tree) → Keeps here (Start tree) (begin_for here tree)
+keeps-for : (here : StepStart) (tree : Tree) → IsRoomFor here (Start tree) → KnowsLoop here.program (names_of here.task.env) (children_of tree) → Keeps here (Start tree) (begin_for here tree)
 unfolding Scoped
 keeps-for here tree room knows =
     keeps-first here (Start tree) room (kind_of (child_at tree 0)) (child_at tree 0) (Test tree (length here.task.env) ∷ []) (
@@ -243,7 +243,7 @@ keeps-for here tree room knows =
       subst (λ (names : List ℕ). Scoped here.program here.task.todo names) (sym (take_at (names_of here.task.env) (first_names (child_at tree 0)) (length here.task.env) (names_length here.task.env))) room.now.1,
     )
 
-keeps-statement : (here : Here) (tree : Tree) → IsRoomFor here (Start tree) → Keeps here (Start tree) (begin_statement (kind_of tree) here tree)
+keeps-statement : (here : StepStart) (tree : Tree) → IsRoomFor here (Start tree) → Keeps here (Start tree) (begin_statement (kind_of tree) here tree)
 unfolding Knows
 keeps-statement here (Node node.Block spot name number text children) room = keeps-block here (Node node.Block spot name number text children) room room.now.0
 keeps-statement here (Node node.If spot name number text children) room =
@@ -297,7 +297,7 @@ keeps-statement here (Node (node.Construct directive.Task) spot name number text
 keeps-statement here (Node kind spot name number text children) room = keeps_on here (Start (Node kind spot name number text children)) [] room.now.1 room
 
 -- the parts of a plain loop
-keeps-test : (here : Here) (tree : Tree) (stay : ℕ) → IsRoomFor here (Test tree stay) → Keeps here (Test tree stay) (test_for here tree stay)
+keeps-test : (here : StepStart) (tree : Tree) (stay : ℕ) → IsRoomFor here (Test tree stay) → Keeps here (Test tree stay) (test_for here tree stay)
 unfolding Scoped
 keeps-test here tree stay room =
     keeps_result here (Test tree stay) (test_value here tree) _ (λ number.
@@ -305,7 +305,7 @@ keeps-test here tree stay room =
     (keeps_with here (Test tree stay) stay room.now.1 room)
     (keeps_on here (Test tree stay) (Start (child_at tree 3) ∷ Third tree stay ∷ []) (knows_behind_first here.program (names_of here.task.env) (children_of tree) 2 room.now.0, room.now) room))
 
-keeps-inside : (here : Here) (construct : Tree) → IsRoomFor here (Inside construct) → Keeps here (Inside construct) (begin_inside (kind_of construct) here construct)
+keeps-inside : (here : StepStart) (construct : Tree) → IsRoomFor here (Inside construct) → Keeps here (Inside construct) (begin_inside (kind_of construct) here construct)
 keeps-inside here (Node (node.Construct directive.ParallelFor) spot name number text children) room =
     let tree = Node (node.Construct directive.ParallelFor) spot name number text children in keeps-loop here (Inside tree) tree refl refl room.now.0 room.now.1
 keeps-inside here (Node (node.Construct directive.ParallelSections) spot name number text children) room =
@@ -317,7 +317,7 @@ unfolding Scoped
 barrier-scoped program true construct items names now = now
 barrier-scoped program false construct items names now = now
 
-pub keeps_item : (item : Item) (here : Here) → IsRoomFor here item → Keeps here item (step_of item here)
+pub keeps_item : (item : Item) (here : StepStart) → IsRoomFor here item → Keeps here item (step_of item here)
 unfolding Keeps Scoped
 keeps_item (Start tree) here room = keeps-statement here tree room
 keeps_item (Declare tree) here room = keeps-declares here (Declare tree) room tree room.now.0 room.now.1

@@ -22,10 +22,10 @@ use Rattle.c_model.specs.Begin.{created_construct, explicit_task, forked_constru
 use Rattle.c_model.specs.Calls.{file_bound}
 use Rattle.c_model.specs.Clauses.{clauses_among, construct_statement, expression_among, listed_among, sections_of}
 use Rattle.c_model.specs.Copies.{combines, makes_cells}
-use Rattle.c_model.specs.Going.{after_answer, after_event, answered_at, items_answered, items_of_chunk, items_of_section, items_of_test, passed_at}
+use Rattle.c_model.specs.AfterEvents.{after_answer, after_event, answered_at, items_answered, items_of_chunk, items_of_section, items_of_test, passed_at}
 use Rattle.c_model.specs.Parts.{trees_in}
-use Rattle.c_model.specs.Step.{is_masked, is_passed_over, items_from_next, settled_moment, settled_task, silent, step_at}
-use Rattle.c_model.specs.Task.{Here, Item, Moment, Outcome, SharedLoop, Task}
+use Rattle.c_model.specs.Step.{is_masked, skips_masked, items_from_next, settled_moment, settled_task, silent, step_at}
+use Rattle.c_model.specs.Task.{StepStart, Item, Moment, Outcome, SharedLoop, Task}
 use Rattle.c_model.specs.Task.Item.{Start, Forked, NextChunk, NextSection, EndWork, Sync, TestLock}
 use Rattle.c_model.specs.Task.Outcome.{StepsTo, Occurs}
 use Rattle.c_model.specs.Scoped.{IsCallScoped, IsOpenable, IsScoped, IsWellScoped, Knows, KnowsConstruct, KnowsStatements, Scoped, Sees, names_of, with_made, with_shared}
@@ -41,7 +41,7 @@ unfolding Scoped
 settled-start program true tree items settled names each now = each now.1
 settled-start program false tree items settled names each now = now
 
-settled-by : (program : TreeView) (view : View) (item : Item) (items settled : List Item) (names : List ℕ) → (Scoped program items names → Scoped program settled names) → Scoped program (item ∷ items) names → Scoped program (if is_passed_over item view then settled else item ∷ items) names
+settled-by : (program : TreeView) (view : View) (item : Item) (items settled : List Item) (names : List ℕ) → (Scoped program items names → Scoped program settled names) → Scoped program (item ∷ items) names → Scoped program (if skips_masked item view then settled else item ∷ items) names
 settled-by program view (Start tree) items settled names each now = settled-start program (is_masked (kind_of tree) && not (view.index == 0)) tree items settled names each now
 settled-by program view other items settled names each now = now
 
@@ -54,7 +54,7 @@ pub settled_is_scoped : (program : TreeView) (view : View) (task : Task) → IsS
 settled_is_scoped program view task is = record { now = settled-items program view task.todo (names_of task.env) is.now; calls = is.calls }
 
 -- steps and events
-abbrev pub here_at : TreeView → View → Moment → List Item → Here
+abbrev pub here_at : TreeView → View → Moment → List Item → StepStart
 here_at program view now items = record { program = program; view = view; task = record now.task { todo = items }; store = now.store }
 
 kept : (program : TreeView) (view : View) (now : Moment) (item : Item) (items : List Item) (outcome : Outcome) → IsWellScoped program → Scoped program (item ∷ items) (names_of now.task.env) → All (IsCallScoped program) now.task.calls → step_at (item ∷ items) program view now ≡ outcome → Keeps (here_at program view now items) item outcome

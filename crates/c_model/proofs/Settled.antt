@@ -6,13 +6,13 @@ use Rattle.c_model.specs.declared.view.View.{View}
 use Rattle.c_model.specs.declared.point.Point.{Point}
 use Rattle.c_model.specs.declared.question.Answer.{Answer}
 use Rattle.c_model.specs.Begin.{created_construct, explicit_task, explicit_task_of}
-use Rattle.c_model.specs.Going.{after_answer, after_event, settled_after_answer, settled_after_event}
+use Rattle.c_model.specs.AfterEvents.{after_answer, after_event, settled_after_answer, settled_after_event}
 use Rattle.c_model.specs.Task.{Item, Moment, Task}
 use Rattle.c_model.specs.Task.Outcome.{Ends}
-use Rattle.c_model.specs.Step.{is_passed_over, items_from_next, settled_moment, settled_task, silent, step_at}
+use Rattle.c_model.specs.Step.{skips_masked, items_from_next, settled_moment, settled_task, silent, step_at}
 
 -- leaving out once is leaving out twice
-next-by : (view : View) (item : Item) (items : List Item) (passed : Bool) → is_passed_over item view ≡ passed → items_from_next view (items_from_next view items) ≡ items_from_next view items →
+next-by : (view : View) (item : Item) (items : List Item) (passed : Bool) → skips_masked item view ≡ passed → items_from_next view (items_from_next view items) ≡ items_from_next view items →
     items_from_next view (if passed then items_from_next view items else item ∷ items) ≡ (if passed then items_from_next view items else item ∷ items)
 unfolding items_from_next
 next-by view item items true is same = same
@@ -21,7 +21,7 @@ next-by view item items false is same = ap (λ passed. if passed then items_from
 pub next_once : (view : View) (items : List Item) → items_from_next view (items_from_next view items) ≡ items_from_next view items
 unfolding items_from_next
 next_once view [] = refl
-next_once view (item ∷ items) = next-by view item items (is_passed_over item view) refl (next_once view items)
+next_once view (item ∷ items) = next-by view item items (skips_masked item view) refl (next_once view items)
 
 -- what stands in the task as next isn't looked at but for what was found there
 same-step : (items : List Item) (program : TreeView) (view : View) (now : Moment) → step_at items program view (settled_moment view now) ≡ step_at items program view now

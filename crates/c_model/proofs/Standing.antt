@@ -19,14 +19,14 @@ use Rattle.c_model.specs.declared.point.Target.TheVariants as target
 use Rattle.c_model.specs.declared.view.View.{View}
 use Rattle.c_model.specs.declared.entry.Entry.{Entry}
 use Rattle.c_model.specs.Cells.{Bound}
-use Rattle.c_model.specs.Coming.{binds, with_result}
+use Rattle.c_model.specs.StepOutcomes.{binds, with_result}
 use Rattle.c_model.specs.Calls.{begin_call, begin_right, begin_lock_call, begin_return_of, enters, returns_to}
 use Rattle.c_model.specs.Statements.{begin_local_set, declares, makes_first_step, makes_step}
-use Rattle.c_model.specs.Task.{Here, Item, Moment, OpenCall, Outcome}
+use Rattle.c_model.specs.Task.{StepStart, Item, Moment, OpenCall, Outcome}
 use Rattle.c_model.specs.Task.Item.{Start, Declare, Leave, Test, Third, Initialise, Return, FallOff, Forked, Inside, MakeCells, NextChunk, Iterations, NextSection, Combine, EndWork, EndMasked, Sync, Acquire, Release, TestLock, Tested}
 use Rattle.c_model.specs.Task.Outcome.{StepsTo, Asks, Occurs, Ends, Traps, Limits}
 use Rattle.c_model.specs.Step.{begin_standalone, begin_statement, begin_construct, begin_inside, is_event, is_event_statement, is_inside_event, is_test, items_from_next, silent, stands, step_at, step_of, stands_at}
-use Rattle.c_model.specs.Standing.{FitsTask}
+use Rattle.c_model.specs.NextIsEvent.{FitsTask}
 use Rattle.c_model.proofs.Fitting.{Fits}
 
 -- outcomes by their kind
@@ -60,51 +60,51 @@ fits-choice stands true one other first second = first
 fits-choice stands false one other first second = second
 
 -- calls and returns
-fits-returns : (calls : List OpenCall) (here : Here) (number : ℤ) → Fits (returns_to calls here number) false
+fits-returns : (calls : List OpenCall) (here : StepStart) (number : ℤ) → Fits (returns_to calls here number) false
 fits-returns [] here number = fits-step _
 fits-returns (call ∷ calls) here number = fits-step _
 
-fits-binds : (here : Here) (bound : Bound) (items : List Item) → Fits (binds here bound items) false
+fits-binds : (here : StepStart) (bound : Bound) (items : List Item) → Fits (binds here bound items) false
 fits-binds here bound items = fits-choice _ _ _ _ (fits-limit _ _) (fits-step _)
 
-fits-enters : (here : Here) (function : Tree) (call : OpenCall) (bound : Bound) → Fits (enters here function call bound) false
+fits-enters : (here : StepStart) (function : Tree) (call : OpenCall) (bound : Bound) → Fits (enters here function call bound) false
 fits-enters here function call bound = search (fits-choice, fits-limit, fits-step)
 
-pub fits-call : (here : Here) (call : Tree) (env : List Entry) (to : Target) → Fits (begin_call here call env to) false
+pub fits-call : (here : StepStart) (call : Tree) (env : List Entry) (to : Target) → Fits (begin_call here call env to) false
 fits-call here call env to = search (fits-result, fits-enters)
 
-fits-right : (kind : NodeKind) (here : Here) (call : Tree) (env : List Entry) (to : Target) → Fits (begin_right kind here call env to) (is_test kind)
+fits-right : (kind : NodeKind) (here : StepStart) (call : Tree) (env : List Entry) (to : Target) → Fits (begin_right kind here call env to) (is_test kind)
 fits-right node.TestLock here call env to = fits-event _ _
 fits-right other here call env to = fits-call here call env to
 
 ruleset fits = (fits-step, fits-question, fits-event, fits-trap, fits-limit, fits-result, fits-choice, fits-binds, fits-call, fits-right, fits-returns)
 
-fits-step-of : (kind : NodeKind) (here : Here) (tree : Tree) (items : List Item) → Fits (makes_step kind here tree items) false
+fits-step-of : (kind : NodeKind) (here : StepStart) (tree : Tree) (items : List Item) → Fits (makes_step kind here tree items) false
 fits-step-of (node.Assign which) here tree items = search fits
 fits-step-of (node.Bump which side) here tree items = search fits
 fits-step-of other here tree items = fits-step _
 
-fits-first-step : (kind : NodeKind) (here : Here) (tree : Tree) (items : List Item) → Fits (makes_first_step kind here tree items) false
+fits-first-step : (kind : NodeKind) (here : StepStart) (tree : Tree) (items : List Item) → Fits (makes_first_step kind here tree items) false
 fits-first-step node.Init here tree items = search fits
 fits-first-step other here tree items = fits-step-of other here tree items
 
-pub fits-return : (kind : NodeKind) (here : Here) (tree : Tree) → Fits (begin_return_of kind here tree) (is_test kind)
+pub fits-return : (kind : NodeKind) (here : StepStart) (tree : Tree) → Fits (begin_return_of kind here tree) (is_test kind)
 fits-return node.Call here tree = fits-call here tree here.task.env target.Return
 fits-return node.TestLock here tree = fits-event _ _
 fits-return other here tree = search fits
 
-pub fits-lock : (which : LockCall) (here : Here) (tree : Tree) → Fits (begin_lock_call which here tree) true
+pub fits-lock : (which : LockCall) (here : StepStart) (tree : Tree) → Fits (begin_lock_call which here tree) true
 fits-lock lock.Init here tree = fits-event _ _
 fits-lock lock.Destroy here tree = fits-event _ _
 fits-lock lock.Set here tree = fits-event _ _
 fits-lock lock.Unset here tree = fits-event _ _
 
-fits-local : (kind : NodeKind) (here : Here) (tree : Tree) → Fits (begin_local_set kind here tree) false
+fits-local : (kind : NodeKind) (here : StepStart) (tree : Tree) → Fits (begin_local_set kind here tree) false
 fits-local node.Call here tree = search fits
 fits-local node.TestLock here tree = search fits
 fits-local other here tree = search fits
 
-fits-declares : (kind : NodeKind) (here : Here) (tree : Tree) → Fits (declares kind here tree) false
+fits-declares : (kind : NodeKind) (here : StepStart) (tree : Tree) → Fits (declares kind here tree) false
 fits-declares node.LocalSet here tree = fits-local (kind_of (child_at tree 0)) here tree
 fits-declares other here tree = search fits
 
@@ -112,7 +112,7 @@ pub fits-standalone : (which : Standalone) (tree : Tree) → Fits (begin_standal
 fits-standalone standalone.Barrier tree = fits-event _ _
 fits-standalone standalone.Taskwait tree = fits-event _ _
 
-pub fits-construct : (which : Directive) (here : Here) (tree : Tree) → Fits (begin_construct which here tree) true
+pub fits-construct : (which : Directive) (here : StepStart) (tree : Tree) → Fits (begin_construct which here tree) true
 fits-construct directive.Parallel here tree = search fits
 fits-construct directive.For here tree = search fits
 fits-construct directive.Sections here tree = fits-event _ _
@@ -124,12 +124,12 @@ fits-construct directive.Master here tree = fits-event _ _
 fits-construct directive.Critical here tree = fits-event _ _
 fits-construct directive.Task here tree = search fits
 
-pub fits-inside : (kind : NodeKind) (here : Here) (tree : Tree) → Fits (begin_inside kind here tree) (is_inside_event kind)
+pub fits-inside : (kind : NodeKind) (here : StepStart) (tree : Tree) → Fits (begin_inside kind here tree) (is_inside_event kind)
 fits-inside (node.Construct directive.ParallelFor) here tree = search fits
 fits-inside (node.Construct directive.ParallelSections) here tree = fits-event _ _
 fits-inside other here tree = fits-step _
 
-pub fits-statement : (kind : NodeKind) (here : Here) (tree : Tree) → Fits (begin_statement kind here tree) (is_event_statement kind tree)
+pub fits-statement : (kind : NodeKind) (here : StepStart) (tree : Tree) → Fits (begin_statement kind here tree) (is_event_statement kind tree)
 fits-statement node.Empty here tree = fits-step _
 fits-statement node.Block here tree = fits-step _
 fits-statement node.If here tree = search fits
@@ -145,7 +145,7 @@ fits-statement (node.Standalone which) here tree = fits-standalone which tree
 fits-statement (node.Construct which) here tree = fits-construct which here tree
 fits-statement other here tree = fits-step _
 
-pub fits-item : (item : Item) (here : Here) → Fits (step_of item here) (is_event item)
+pub fits-item : (item : Item) (here : StepStart) → Fits (step_of item here) (is_event item)
 fits-item (Start tree) here = fits-statement (kind_of tree) here tree
 fits-item (Declare tree) here = fits-declares (kind_of tree) here tree
 fits-item (Leave names) here = fits-step _

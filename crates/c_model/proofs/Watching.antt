@@ -17,7 +17,7 @@ use Rattle.c_model.specs.declared.view.View.{View}
 use Rattle.c_model.specs.Task.{Moment, Outcome}
 use Rattle.c_model.specs.Task.Outcome.{StepsTo, Asks, Occurs, Ends, Traps, Limits}
 use Rattle.c_model.specs.Step.{silent}
-use Rattle.c_model.specs.Going.{after_answer, after_event}
+use Rattle.c_model.specs.AfterEvents.{after_answer, after_event}
 use Rattle.c_model.specs.Begin.{first_store, main_task, member_task}
 
 -- What a task's code does: so many silent steps, then an event; and at last how it ends, with what was printed.

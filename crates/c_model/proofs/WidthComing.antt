@@ -4,8 +4,8 @@ use Rattle.std.specs.List.{All}
 use Rattle.std.proofs.lemmas.List.{length-take}
 use Rattle.c_syntax.specs.language.Numbered.{TreeView}
 use Rattle.c_model.specs.Cells.{Bound, with_cells}
-use Rattle.c_model.specs.Coming.{binds, bound_of, goes_on, goes_on_with, sets, with_result}
-use Rattle.c_model.specs.Task.{Here, Item, Moment, Outcome}
+use Rattle.c_model.specs.StepOutcomes.{binds, bound_of, goes_on, goes_on_with, sets, with_result}
+use Rattle.c_model.specs.Task.{StepStart, Item, Moment, Outcome}
 use Rattle.c_model.specs.Task.Outcome.{StepsTo, Asks, Occurs, Ends, Traps, Limits}
 use Rattle.c_model.proofs.Fitting.{Fits}
 use Rattle.c_model.specs.Width.{IsCallWithin, IsWithin, most_behind, most_names, width}
@@ -17,14 +17,14 @@ StaysWithin program (StepsTo next) = IsWithin program next.task
 StaysWithin program other = Unit {0}
 
 -- with these items before what remains, and so many names, a task is within the width
-abbrev pub IsEnough : Here → List Item → ℕ → Type 0
+abbrev pub IsEnough : StepStart → List Item → ℕ → Type 0
 IsEnough here items names = most_names here.program (items ++ here.task.todo) names ≤ width here.program
 
-abbrev pub AreCallsWithin : Here → Type 0
+abbrev pub AreCallsWithin : StepStart → Type 0
 AreCallsWithin here = All (IsCallWithin here.program) here.task.calls
 
 -- the task is within the width where this item stands before what remains
-pub record IsRoomFor (here : Here) (item : Item) : Type 0 where
+pub record IsRoomFor (here : StepStart) (item : Item) : Type 0 where
   pub enough : most_behind here.program (length here.task.env) item (most_names here.program here.task.todo) ≤ width here.program
   pub calls : AreCallsWithin here
 
@@ -62,22 +62,22 @@ stays-event program (Traps trap) fits = tt
 stays-event program (Limits limit) fits = tt
 
 -- the words of the forms
-pub stays-on : (here : Here) (items : List Item) → IsEnough here items (length here.task.env) → AreCallsWithin here → StaysWithin here.program (goes_on here items)
+pub stays-on : (here : StepStart) (items : List Item) → IsEnough here items (length here.task.env) → AreCallsWithin here → StaysWithin here.program (goes_on here items)
 unfolding StaysWithin
 stays-on here items enough calls = record { now = enough; calls = calls }
 
-pub stays-with : (here : Here) (names : ℕ) (items : List Item) → IsEnough here items (min names (length here.task.env)) → AreCallsWithin here → StaysWithin here.program (goes_on_with here names items)
+pub stays-with : (here : StepStart) (names : ℕ) (items : List Item) → IsEnough here items (min names (length here.task.env)) → AreCallsWithin here → StaysWithin here.program (goes_on_with here names items)
 unfolding StaysWithin
 stays-with here names items enough calls = record { now = rw (length-take names here.task.env) enough; calls = calls }
 
-pub stays-sets : (here : Here) (cell : ℕ) (number : ℤ) (items : List Item) → IsEnough here items (length here.task.env) → AreCallsWithin here → StaysWithin here.program (sets here cell number items)
+pub stays-sets : (here : StepStart) (cell : ℕ) (number : ℤ) (items : List Item) → IsEnough here items (length here.task.env) → AreCallsWithin here → StaysWithin here.program (sets here cell number items)
 unfolding StaysWithin
 stays-sets here cell number items enough calls = record { now = enough; calls = calls }
 
-pub stays-binds : (here : Here) (bound : Bound) (items : List Item) → IsEnough here items (length bound.env) → AreCallsWithin here → StaysWithin here.program (binds here bound items)
+pub stays-binds : (here : StepStart) (bound : Bound) (items : List Item) → IsEnough here items (length bound.env) → AreCallsWithin here → StaysWithin here.program (binds here bound items)
 stays-binds here bound items enough calls = stays-unless here.program _ _ _ (record { now = enough; calls = calls })
 
 -- a name comes into scope
-pub stays-bound : (here : Here) (name slot : ℕ) (numbers : List ℤ) (items : List Item) → IsEnough here items (length here.task.env + 1) → AreCallsWithin here → StaysWithin here.program (binds here (with_cells (bound_of here) name slot numbers) items)
+pub stays-bound : (here : StepStart) (name slot : ℕ) (numbers : List ℤ) (items : List Item) → IsEnough here items (length here.task.env + 1) → AreCallsWithin here → StaysWithin here.program (binds here (with_cells (bound_of here) name slot numbers) items)
 stays-bound here name slot numbers items enough calls =
     stays-binds here (with_cells (bound_of here) name slot numbers) items (rw (one_more here.task.env _) enough) calls

@@ -25,7 +25,7 @@ use Rattle.c_model.specs.Clauses.{Copying, Listed, has_nowait, sections_of}
 use Rattle.c_model.specs.Clauses.Copying.{Private, First, Reduced}
 use Rattle.c_model.specs.Copies.{combines, combining_all, combining_of, has_own_cells, listed_variables, makes_cells}
 use Rattle.c_check.specs.Loops.{child_at}
-use Rattle.c_model.specs.Going.{after_answer, after_event, answered_at, barrier_items, call_in, items_after, items_answered, items_of_chunk, items_of_section, items_of_test, mutex_items, names_after, next_stage, passed_at, single_items, work_items}
+use Rattle.c_model.specs.AfterEvents.{after_answer, after_event, answered_at, barrier_items, call_in, items_after, items_answered, items_of_chunk, items_of_section, items_of_test, mutex_items, names_after, next_stage, passed_at, single_items, work_items}
 use Rattle.c_model.specs.Occurring.{IsOfItem, IsOfNext, IsOfTest}
 use Rattle.c_model.specs.Step.{settled_moment, settled_task}
 use Rattle.c_model.specs.Task.{Item, Moment, SharedLoop, Task}

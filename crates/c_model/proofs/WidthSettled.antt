@@ -6,7 +6,7 @@ use Rattle.c_syntax.specs.language.Numbered.{TreeView}
 use Rattle.c_model.specs.declared.view.View.{View}
 use Rattle.c_model.specs.Task.{Item, Task}
 use Rattle.c_model.specs.Task.Item.{Start}
-use Rattle.c_model.specs.Step.{is_masked, is_passed_over, items_from_next, settled_task}
+use Rattle.c_model.specs.Step.{is_masked, skips_masked, items_from_next, settled_task}
 use Rattle.c_model.specs.Width.{IsWithin, most_names}
 
 settled-start : (program : TreeView) (passed : Bool) (tree : Tree) (items settled : List Item) (names : ℕ) → most_names program settled names ≤ most_names program items names → most_names program (if passed then settled else Start tree ∷ items) names ≤ most_names program (Start tree ∷ items) names
@@ -14,7 +14,7 @@ unfolding most_names
 settled-start program true tree items settled names fewer = omega (arith, fewer)
 settled-start program false tree items settled names fewer = omega arith
 
-settled-by : (program : TreeView) (view : View) (item : Item) (items settled : List Item) (names : ℕ) → most_names program settled names ≤ most_names program items names → most_names program (if is_passed_over item view then settled else item ∷ items) names ≤ most_names program (item ∷ items) names
+settled-by : (program : TreeView) (view : View) (item : Item) (items settled : List Item) (names : ℕ) → most_names program settled names ≤ most_names program items names → most_names program (if skips_masked item view then settled else item ∷ items) names ≤ most_names program (item ∷ items) names
 unfolding most_names
 settled-by program view (Start tree) items settled names fewer = settled-start program (is_masked (kind_of tree) && not (view.index == 0)) tree items settled names fewer
 settled-by program view other items settled names fewer = omega arith

@@ -21,18 +21,18 @@ use Rattle.c_model.specs.Value.{in_range, is_zero}
 use Rattle.c_model.specs.Clauses.{condition_of, requested_threads, schedule_of, sections_of}
 use Rattle.c_model.specs.Loops.{iteration_count, iteration_value, loop_of}
 use Rattle.c_model.specs.Copies.{with_own_cells, with_task_cells}
-use Rattle.c_model.specs.Task.{Here, Item, Outcome, SharedLoop}
+use Rattle.c_model.specs.Task.{StepStart, Item, Outcome, SharedLoop}
 use Rattle.c_model.specs.Task.Item.{Iterations, NextChunk, Start}
 use Rattle.c_model.specs.Task.Outcome.{Asks, Limits, Occurs}
-use Rattle.c_model.specs.Coming.{binds, bound_of, sets, value_here, with_result}
+use Rattle.c_model.specs.StepOutcomes.{binds, bound_of, sets, value_here, with_result}
 
 -- an expression of a clause; without the clause it is this number
-abbrev pub value_or : ℤ → Here → Option Tree → Result ℤ ℕ
+abbrev pub value_or : ℤ → StepStart → Option Tree → Result ℤ ℕ
 value_or other here None = Ok other
 value_or other here (Some expression) = value_here here expression
 
 -- a region is forked. Without `num_threads` as many threads are asked for as a run may have
-abbrev pub begin_parallel : Here → Tree → Outcome
+abbrev pub begin_parallel : StepStart → Tree → Outcome
 begin_parallel here construct =
     with_result (value_or (pos here.view.max) here (requested_threads construct)) (λ number.
     Occurs (ParallelBegin (place_of construct) number) construct)
@@ -45,7 +45,7 @@ abbrev pub loop_work : Tree → ℤ → ℤ → Outcome
 loop_work construct start end =
     Occurs (WorkBegin (place_of construct) (work.Loop start (iteration_count construct start end) (loop_of construct).step (schedule_of construct))) construct
 
-abbrev pub begin_loop : Here → Tree → Outcome
+abbrev pub begin_loop : StepStart → Tree → Outcome
 begin_loop here construct =
     with_result (value_here here (loop_of construct).start) (λ start.
     with_result (value_here here (loop_of construct).end) (λ end. loop_work construct start end))
@@ -62,21 +62,21 @@ begin_masked construct = Occurs (MaskedBegin (place_of construct)) construct
 abbrev pub end_masked : Tree → Outcome
 end_masked construct = Occurs (MaskedEnd (place_of construct)) construct
 
-abbrev pub begin_critical : Here → Tree → Outcome
+abbrev pub begin_critical : StepStart → Tree → Outcome
 begin_critical here construct =
     Occurs (MutexAcquire (place_of construct) (critical_number here.program construct) mutex.Critical target.Nowhere) construct
 
 -- An explicit task is made, with the cells of its own. A task whose `if` clause gives 0 is undeferred.
-abbrev pub creates : Here → Tree → ℤ → Outcome
+abbrev pub creates : StepStart → Tree → ℤ → Outcome
 creates here construct number =
     if has_too_many (with_task_cells here.program (bound_of here) construct).cells then Limits CELLS
     else Occurs (TaskCreate (place_of construct) (is_zero number)) construct
 
-abbrev pub begin_task : Here → Tree → Outcome
+abbrev pub begin_task : StepStart → Tree → Outcome
 begin_task here construct = with_result (value_or (pos 1) here (condition_of construct)) (λ number. creates here construct number)
 
 -- the cells of a construct are made in one silent step
-abbrev pub make_cells : Here → Tree → Outcome
+abbrev pub make_cells : StepStart → Tree → Outcome
 make_cells here construct = binds here (with_own_cells here.program (bound_of here) construct) []
 
 -- the next chunk is taken in a silent step
@@ -88,7 +88,7 @@ abbrev pub iterations_from : SharedLoop → ℕ → ℕ → Item
 iterations_from loop at upto = if nat_lt at upto then Iterations loop at upto else NextChunk loop
 
 -- an iteration begins: the loop's variable is set in a silent step
-abbrev pub begin_iteration : Here → SharedLoop → ℕ → ℕ → Outcome
+abbrev pub begin_iteration : StepStart → SharedLoop → ℕ → ℕ → Outcome
 begin_iteration here loop at upto =
     sets here (entry_of here.task.env (name_of (loop_of loop.construct).variable)).first (iteration_value loop.start loop.step at)
     (Start (loop_of loop.construct).body ∷ iterations_from loop (at + 1) upto ∷ [])
@@ -105,7 +105,7 @@ reduction_result reduction.Multiply around own = in_range (around *ℤ own)
 reduction_result reduction.Max around own = Ok (if int_le around own then own else around)
 reduction_result reduction.Min around own = Ok (if int_le around own then around else own)
 
-abbrev pub combine : Here → ReductionOp → ℕ → ℕ → Outcome
+abbrev pub combine : StepStart → ReductionOp → ℕ → ℕ → Outcome
 combine here operator name names =
     let around = (entry_of (take names here.task.env) name).first in
     let own = (first_named name (drop names here.task.env)).first in

@@ -9,7 +9,7 @@ use Rattle.c_model.specs.declared.point.SyncStage.{SyncStage}
 use Rattle.c_model.specs.declared.point.SyncStage.TheVariants as stage
 use Rattle.c_model.specs.declared.question.Ask.{Ask}
 use Rattle.c_model.specs.declared.question.Ask.TheVariants as ask
-use Rattle.c_model.specs.Going.{tree_at_event}
+use Rattle.c_model.specs.AfterEvents.{tree_at_event}
 use Rattle.c_model.specs.Task.{Item}
 use Rattle.c_model.specs.Task.Item.{Start, Initialise, Forked, Inside, EndWork, EndMasked, Sync, Acquire, Release, NextChunk, NextSection, TestLock}
 

@@ -12,7 +12,7 @@ use Rattle.c_model.specs.declared.point.SyncKind.TheVariants as sync
 use Rattle.c_model.specs.declared.point.SyncStage.TheVariants as stage
 use Rattle.c_model.specs.declared.question.Ask.TheVariants as ask
 use Rattle.c_model.specs.declared.view.View.{View}
-use Rattle.c_model.specs.Task.{Here, Item, Moment, Outcome, Task}
+use Rattle.c_model.specs.Task.{StepStart, Item, Moment, Outcome, Task}
 use Rattle.c_model.specs.Task.Item.{Start, Declare, Leave, Test, Third, Initialise, Return, FallOff, Forked, Inside, MakeCells, NextChunk, Iterations, NextSection, Combine, EndWork, EndMasked, Sync, Acquire, Release, TestLock, Tested}
 use Rattle.c_model.specs.Task.Outcome.{Asks, Ends}
 use Rattle.c_model.specs.Statements.{begin_block, begin_empty, begin_for, begin_if, begin_print, begin_step, begin_while, declares, leave_block, test_for, third_for}
@@ -25,7 +25,7 @@ begin_standalone standalone.Barrier tree = synchronises tree sync.Barrier stage.
 begin_standalone standalone.Taskwait tree = synchronises tree sync.Taskwait stage.RegionBegin
 
 -- a combined directive begins as the parallel construct that it has outside
-abbrev pub begin_construct : Directive → Here → Tree → Outcome
+abbrev pub begin_construct : Directive → StepStart → Tree → Outcome
 begin_construct directive.Parallel here construct = begin_parallel here construct
 begin_construct directive.For here construct = begin_loop here construct
 begin_construct directive.Sections here construct = begin_sections construct
@@ -38,7 +38,7 @@ begin_construct directive.Critical here construct = begin_critical here construc
 begin_construct directive.Task here construct = begin_task here construct
 
 -- a statement begins. What can't stand as one is an empty statement
-abbrev pub begin_statement : NodeKind → Here → Tree → Outcome
+abbrev pub begin_statement : NodeKind → StepStart → Tree → Outcome
 begin_statement node.Empty here tree = begin_empty here
 begin_statement node.Block here tree = begin_block here tree
 begin_statement node.If here tree = begin_if here tree
@@ -55,12 +55,12 @@ begin_statement (node.Construct which) here tree = begin_construct which here tr
 begin_statement other here tree = begin_empty here
 
 -- the construct that a combined directive has inside
-abbrev pub begin_inside : NodeKind → Here → Tree → Outcome
+abbrev pub begin_inside : NodeKind → StepStart → Tree → Outcome
 begin_inside (node.Construct directive.ParallelFor) here construct = begin_loop here construct
 begin_inside (node.Construct directive.ParallelSections) here construct = begin_sections construct
 begin_inside other here construct = begin_empty here
 
-abbrev pub step_of : Item → Here → Outcome
+abbrev pub step_of : Item → StepStart → Outcome
 step_of (Start tree) here = begin_statement (kind_of tree) here tree
 step_of (Declare tree) here = declares (kind_of tree) here tree
 step_of (Leave names) here = leave_block here names
@@ -90,13 +90,13 @@ is_masked (node.Construct directive.Masked) = true
 is_masked (node.Construct directive.Master) = true
 is_masked other = false
 
-abbrev pub is_passed_over : Item → View → Bool
-is_passed_over (Start tree) view = is_masked (kind_of tree) && not (view.index == 0)
-is_passed_over other view = false
+abbrev pub skips_masked : Item → View → Bool
+skips_masked (Start tree) view = is_masked (kind_of tree) && not (view.index == 0)
+skips_masked other view = false
 
 unfoldable pub items_from_next : View → List Item → List Item
 items_from_next view [] = []
-items_from_next view (item ∷ items) = if is_passed_over item view then items_from_next view items else item ∷ items
+items_from_next view (item ∷ items) = if skips_masked item view then items_from_next view items else item ∷ items
 
 -- the task without what it goes past: what stands next stands first
 abbrev pub settled_task : View → Task → Task

@@ -105,7 +105,7 @@ pub data Outcome : Type 0 where
   Limits : ℕ → Outcome
 
 -- A step is made from here: the program, what the thread sees of its team, the task without the item that stands next, and the store.
-pub record Here : Type 0 where
+pub record StepStart : Type 0 where
   pub program : TreeView
   pub view : View
   pub task : Task

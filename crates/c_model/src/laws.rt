@@ -15,11 +15,11 @@ ghost use Rattle.c_model.specs.declared.question.Ask.{Ask as Asked};
 ghost use Rattle.c_check.specs.Checked.{Checked};
 ghost use Rattle.c_model.specs.Answers.{Answers, AsksFor};
 ghost use Rattle.c_model.specs.Begin.{explicit_task, first_store, main_task, member_task};
-ghost use Rattle.c_model.specs.Going.{after_answer, after_event};
+ghost use Rattle.c_model.specs.AfterEvents.{after_answer, after_event};
 ghost use Rattle.c_model.specs.Task.{Moment, Task};
 ghost use Rattle.c_model.specs.Task.Outcome.{Asks, Ends, Occurs, StepsTo};
-ghost use Rattle.c_model.specs.Standing.{FitsTask};
-ghost use Rattle.c_model.specs.Known.{IsKnown};
+ghost use Rattle.c_model.specs.NextIsEvent.{FitsTask};
+ghost use Rattle.c_model.specs.TrapsAndLimits.{IsKnown};
 ghost use Rattle.c_model.specs.Occurring.{IsAskOfNext, IsOfNext, IsTreeOfNext};
 ghost use Rattle.c_model.specs.Step.{settled_moment, settled_task, silent, stands};
 ghost use Rattle.c_model.specs.Width.{IsWithin};
@@ -28,7 +28,7 @@ ghost use Rattle.c_model.specs.Parts.{parts};
 ghost use Rattle.c_model.specs.Program.{function_named};
 ghost use Rattle.c_model.specs.Value.{Scope, cell_of, value};
 ghost use Rattle.c_model.specs.Formed.{IsProgramFormed};
-ghost use Rattle.c_model.specs.Made.{AreCopiesInScope, IsMade, IsTaskMade};
+ghost use Rattle.c_model.specs.UsedCells.{AreCopiesInScope, IsMade, IsTaskMade};
 ghost use Rattle.c_model.specs.Scoped.{IsCallable, IsScoped, IsWellScoped, Knows, Sees, names_of};
 
 /// What stands next tells by its form alone, without cells, whether an event or the end comes: then nothing is a silent step and

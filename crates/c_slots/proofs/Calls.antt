@@ -15,18 +15,18 @@ use Rattle.c_model.specs.Parts.{parts}
 use Rattle.c_model.specs.Program.{body_of, function_named, parameters_of, place_of}
 use Rattle.c_model.specs.Cells.{Bound}
 use Rattle.c_model.specs.Value.{all_values}
-use Rattle.c_model.specs.Coming.{scope_of, value_here}
+use Rattle.c_model.specs.StepOutcomes.{scope_of, value_here}
 use Rattle.c_model.specs.Calls.{begin_call, begin_return_of, begin_right, bound_in, ends_test, enters, file_bound, lock_id, open_call, returns_to}
-use Rattle.c_model.specs.Going.{names_after}
-use Rattle.c_model.specs.Task.{Here, Item, OpenCall}
+use Rattle.c_model.specs.AfterEvents.{names_after}
+use Rattle.c_model.specs.Task.{StepStart, Item, OpenCall}
 use Rattle.c_model.specs.Task.Item.{Start, FallOff}
-use Rattle.c_model.specs.Made.{slots_of}
+use Rattle.c_model.specs.UsedCells.{slots_of}
 use Rattle.c_slots.specs.Slotted.{IsCallSlotted, IsPlaced, IsSlotted, Slotted}
 use Rattle.c_slots.proofs.Blocks.{value_slotted}
 use Rattle.c_slots.proofs.Outcomes.{IsRoomFor, Keeps, keeps_choice, keeps_event, keeps_limit, keeps_result, keeps_step}
 use Rattle.c_slots.proofs.EntrySlots.{parameters_slots}
 
-module _ (here : Here) (item : Item) (room : IsRoomFor here item) where
+module _ (here : StepStart) (item : Item) (room : IsRoomFor here item) where
   keeps-enters : (function : Tree) (call : OpenCall) (bound : Bound) → IsPlaced here.program (slots_of bound.env) (body_of function)
       → IsCallSlotted here.program call → Keeps here item (enters here function call bound)
   unfolding Slotted

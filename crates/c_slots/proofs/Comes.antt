@@ -4,7 +4,7 @@ use Rattle.c_syntax.specs.language.Numbered.{TreeView, root_tree}
 use Rattle.c_syntax.specs.language.Words.{words_of}
 use Rattle.c_check.specs.Checked.{Checked}
 use Rattle.c_model.specs.Formed.{IsProgramFormed}
-use Rattle.c_model.specs.Made.{IsTaskMade}
+use Rattle.c_model.specs.UsedCells.{IsTaskMade}
 use Rattle.c_model.specs.Scoped.{IsScoped, IsWellScoped}
 use Rattle.c_model.specs.Step.{settled_task}
 use Rattle.c_model.specs.Task.{Moment}
@@ -14,7 +14,7 @@ use Rattle.c_model.proofs.MadeTasks.{answer_is_made, event_is_made, explicit_is_
 use Rattle.c_model.proofs.ScopeProgram.{well_scoped}
 use Rattle.c_model.proofs.ScopeTasks.{answer_is_scoped, event_is_scoped, explicit_is_scoped, main_is_scoped, member_is_scoped, step_is_scoped}
 use Rattle.c_syntax.specs.language.Texts.{Spells}
-use Rattle.c_slots.specs.Coming.{ComesTo, IsWhole}
+use Rattle.c_slots.specs.CodesOfRun.{ComesTo, IsWhole}
 use Rattle.c_slots.specs.Slotted.{IsSlotted, IsWellSlotted}
 use Rattle.c_slots.proofs.Files.{well_slotted}
 use Rattle.c_slots.proofs.ProductionPlaces.{texts_have_own_places}

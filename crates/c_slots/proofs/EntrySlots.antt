@@ -14,7 +14,7 @@ use Rattle.c_model.specs.Clauses.{Listed}
 use Rattle.c_model.specs.Clauses.Copying.{First}
 use Rattle.c_model.specs.Copies.{is_loop, listed_variables, loop_slot, with_copy, with_listed, with_own_cells, with_slots, with_task_cells}
 use Rattle.c_model.specs.Loops.{declares_variable, loop_of}
-use Rattle.c_model.specs.Made.{slots_of}
+use Rattle.c_model.specs.UsedCells.{slots_of}
 use Rattle.c_model.proofs.ScopeTrees.{IsPart}
 use Rattle.c_slots.specs.Slotted.{HasLoopSlot}
 

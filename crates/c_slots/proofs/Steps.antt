@@ -32,19 +32,19 @@ use Rattle.c_model.specs.Value.{all_values, cell_of, is_zero}
 use Rattle.c_model.specs.Calls.{begin_lock_call}
 use Rattle.c_model.specs.Clauses.{condition_of, construct_statement, has_nowait, requested_threads, sections_of}
 use Rattle.c_model.specs.Formed.{IsFormed}
-use Rattle.c_model.specs.Coming.{bound_of, goes_on, goes_on_with, scope_of, value_here}
+use Rattle.c_model.specs.StepOutcomes.{bound_of, goes_on, goes_on_with, scope_of, value_here}
 use Rattle.c_model.specs.Constructs.{begin_loop, begin_sections, begin_critical, begin_masked, begin_parallel, begin_single, begin_task, iterations_from}
 use Rattle.c_model.specs.Constructs.{reduction_result, value_or}
 use Rattle.c_model.specs.Copies.{makes_cells, with_own_cells}
-use Rattle.c_model.specs.Going.{next_stage, tree_at_event, work_items}
+use Rattle.c_model.specs.AfterEvents.{next_stage, tree_at_event, work_items}
 use Rattle.c_model.specs.Loops.{iteration_value, loop_of}
 use Rattle.c_model.specs.Statements.{assigns, begin_block, begin_for, begin_local_set, begin_set_to_call, begin_set_to_value, branch_taken, declares}
 use Rattle.c_model.specs.Statements.{makes_first_step, makes_step, new_number, setting_of, test_for, test_value}
 use Rattle.c_model.specs.Step.{begin_construct, begin_inside, begin_standalone, begin_statement, step_of}
-use Rattle.c_model.specs.Task.{Here, Item, items_of_parts}
+use Rattle.c_model.specs.Task.{StepStart, Item, items_of_parts}
 use Rattle.c_model.specs.Task.Item.{Start, Declare, Leave, Test, Third, Initialise, Return, FallOff, Forked, Inside, MakeCells, NextChunk, Iterations}
 use Rattle.c_model.specs.Task.Item.{NextSection, Combine, EndWork, EndMasked, Sync, Acquire, Release, TestLock, Tested}
-use Rattle.c_model.specs.Made.{slots_of}
+use Rattle.c_model.specs.UsedCells.{slots_of}
 use Rattle.c_slots.specs.Slotted.{HasLoopSlot, IsConstructPlaced, IsPlaced, Slotted}
 use Rattle.c_slots.proofs.Parts.{body_placed, for_placed, first_slots, if_placed, sections_placed, slots_by_first, statement_placed, while_placed}
 use Rattle.c_slots.proofs.Standing.{part_left, placed_wider}
@@ -55,7 +55,7 @@ use Rattle.c_slots.proofs.Outcomes.{keeps_sets, keeps_unless, keeps_with}
 use Rattle.c_slots.proofs.Calls.{keeps_return, keeps_returns, keeps_right, keeps_tested}
 
 -- declarators
-module _ (here : Here) (item : Item) (room : IsRoomFor here item) where
+module _ (here : StepStart) (item : Item) (room : IsRoomFor here item) where
   keeps-set-to-value : (named expression : Tree) (items : List Item)
       → Slotted here.program (items ++ here.task.todo) (slots_of here.task.env ++ slot_of_name here.program named ∷ [])
       → Keeps here item (begin_set_to_value here named expression items)
@@ -126,7 +126,7 @@ again-slotted program slots true body tree items is also now = now
 again-slotted program slots false body tree items is also now = (is, (also, now))
 
 -- the work of a construct begins
-begun : (here : Here) (item : Item) (construct : Tree) (codeptr : ℕ) (kind : Work) → tree_at_event item ≡ construct
+begun : (here : StepStart) (item : Item) (construct : Tree) (codeptr : ℕ) (kind : Work) → tree_at_event item ≡ construct
     → ((executes : Bool) (own : List ℕ) → HasLoopSlot here.program own construct
     → Slotted here.program (work_items kind construct (length here.task.env) executes ++ here.task.todo) (slots_of here.task.env ++ own))
     → LeadsOn here item (WorkBegin codeptr kind)
@@ -142,13 +142,13 @@ begun here item construct codeptr kind is each =
       creates = tt;
     }
 
-around-own : (here : Here) (own : List ℕ) → Slotted here.program here.task.todo (slots_of here.task.env)
+around-own : (here : StepStart) (own : List ℕ) → Slotted here.program here.task.todo (slots_of here.task.env)
     → Slotted here.program here.task.todo (take (length here.task.env) (slots_of here.task.env ++ own))
 around-own here own now =
     subst (λ (slots : List ℕ). Slotted here.program here.task.todo slots)
     (sym (take_at (slots_of here.task.env) own (length here.task.env) (slots_length here.task.env))) now
 
-keeps-loop : (here : Here) (item : Item) (construct : Tree) → tree_at_event item ≡ construct
+keeps-loop : (here : StepStart) (item : Item) (construct : Tree) → tree_at_event item ≡ construct
     → ((own : List ℕ) → HasLoopSlot here.program own construct → IsPlaced here.program (slots_of here.task.env ++ own) (loop_of construct).body)
     → Slotted here.program here.task.todo (slots_of here.task.env) → Keeps here item (begin_loop here construct)
 unfolding Slotted
@@ -157,7 +157,7 @@ keeps-loop here item construct is body now =
     keeps_result here item (value_here here (loop_of construct).end) _ (λ end.
     keeps_event here item _ construct (begun here item construct _ _ is (λ executes own known. (body own known, around-own here own now)))))
 
-keeps-sections : (here : Here) (item : Item) (construct : Tree) → tree_at_event item ≡ construct
+keeps-sections : (here : StepStart) (item : Item) (construct : Tree) → tree_at_event item ≡ construct
     → ((section : ℕ) → IsPlaced here.program (slots_of here.task.env) (slice_index_or (sections_of construct) section nothing))
     → Slotted here.program here.task.todo (slots_of here.task.env) → Keeps here item (begin_sections construct)
 unfolding Slotted
@@ -168,7 +168,7 @@ keeps-sections here item construct is sections now =
       around-own here own now,
     )))
 
-single-slotted : (here : Here) (construct : Tree) (executes : Bool) (own : List ℕ)
+single-slotted : (here : StepStart) (construct : Tree) (executes : Bool) (own : List ℕ)
     → IsPlaced here.program (slots_of here.task.env) (construct_statement construct) → Slotted here.program here.task.todo (slots_of here.task.env)
     → Slotted here.program (work_items work.Single construct (length here.task.env) executes ++ here.task.todo) (slots_of here.task.env ++ own)
 unfolding Slotted
@@ -180,7 +180,7 @@ single-slotted here construct true own is now = (
 single-slotted here construct false own is now = around-own here own now
 
 -- constructs
-module _ (here : Here) (construct : Tree) (is : tree_at_event (Start construct) ≡ construct)
+module _ (here : StepStart) (construct : Tree) (is : tree_at_event (Start construct) ≡ construct)
     (now : Slotted here.program here.task.todo (slots_of here.task.env)) where
   keeps-parallel : IsConstructPlaced here.program (slots_of here.task.env) construct → Keeps here (Start construct) (begin_parallel here construct)
   unfolding Slotted
@@ -229,13 +229,13 @@ stage-slotted program tree kind stage.WaitBegin items slots now = now
 stage-slotted program tree kind stage.WaitEnd items slots now = now
 stage-slotted program tree kind stage.RegionEnd items slots now = now
 
-keeps-standalone : (which : Standalone) (here : Here) (tree : Tree) → Slotted here.program here.task.todo (slots_of here.task.env)
+keeps-standalone : (which : Standalone) (here : StepStart) (tree : Tree) → Slotted here.program here.task.todo (slots_of here.task.env)
     → Keeps here (Start tree) (begin_standalone which tree)
 unfolding Slotted
 keeps-standalone standalone.Barrier here tree now = keeps_event here (Start tree) _ tree (record { leads = λ executes. now; creates = tt })
 keeps-standalone standalone.Taskwait here tree now = keeps_event here (Start tree) _ tree (record { leads = λ executes. now; creates = tt })
 
-keeps-lock : (which : LockCall) (here : Here) (tree : Tree) → Slotted here.program here.task.todo (slots_of here.task.env)
+keeps-lock : (which : LockCall) (here : StepStart) (tree : Tree) → Slotted here.program here.task.todo (slots_of here.task.env)
     → Keeps here (Start tree) (begin_lock_call which here tree)
 unfolding Slotted
 keeps-lock lock.Init here tree now = keeps_event here (Start tree) _ tree (record { leads = λ executes. now; creates = tt })
@@ -244,7 +244,7 @@ keeps-lock lock.Set here tree now = keeps_event here (Start tree) _ tree (record
 keeps-lock lock.Unset here tree now = keeps_event here (Start tree) _ tree (record { leads = λ executes. now; creates = tt })
 
 -- a statement begins
-keeps-block : (here : Here) (spot : Spot) (name number : ℕ) (text : List ℕ) (children : Children)
+keeps-block : (here : StepStart) (spot : Spot) (name number : ℕ) (text : List ℕ) (children : Children)
     → IsRoomFor here (Start (Node node.Block spot name number text children))
     → Keeps here (Start (Node node.Block spot name number text children)) (begin_block here (Node node.Block spot name number text children))
 unfolding IsFormed
@@ -259,7 +259,7 @@ keeps-block here spot name number text children room =
     (leave_slotted here.program here.task.todo slots (length here.task.env) (slots_length here.task.env) room.now.1)))
     room
 
-keeps-for : (here : Here) (spot : Spot) (name number : ℕ) (text : List ℕ) (children : Children)
+keeps-for : (here : StepStart) (spot : Spot) (name number : ℕ) (text : List ℕ) (children : Children)
     → IsRoomFor here (Start (Node node.For spot name number text children))
     → Keeps here (Start (Node node.For spot name number text children)) (begin_for here (Node node.For spot name number text children))
 unfolding Slotted
@@ -271,7 +271,7 @@ keeps-for here spot name number text children room =
           (sym (take_at (slots_of here.task.env) (first_slots here.program (child_at tree 0)) (length here.task.env) (slots_length here.task.env))) room.now.1,
     )
 
-keeps-construct : (which : Directive) (here : Here) (spot : Spot) (name number : ℕ) (text : List ℕ) (children : Children)
+keeps-construct : (which : Directive) (here : StepStart) (spot : Spot) (name number : ℕ) (text : List ℕ) (children : Children)
     → IsRoomFor here (Start (Node (node.Construct which) spot name number text children))
     → Keeps here (Start (Node (node.Construct which) spot name number text children))
     (begin_construct which here (Node (node.Construct which) spot name number text children))
@@ -309,7 +309,7 @@ keeps-construct directive.Task here spot name number text children room =
     keeps-task here (Node (node.Construct directive.Task) spot name number text children) refl room.now.1
     (statement_placed here.program (slots_of here.task.env) directive.Task spot name number text children room.now.0)
 
-keeps-statement : (here : Here) (tree : Tree) → IsRoomFor here (Start tree) → Keeps here (Start tree) (begin_statement (kind_of tree) here tree)
+keeps-statement : (here : StepStart) (tree : Tree) → IsRoomFor here (Start tree) → Keeps here (Start tree) (begin_statement (kind_of tree) here tree)
 keeps-statement here (Node node.Block spot name number text children) room = keeps-block here spot name number text children room
 keeps-statement here (Node node.If spot name number text children) room =
     let tree = Node node.If spot name number text children in
@@ -349,7 +349,7 @@ keeps-statement here (Node (node.Construct which) spot name number text children
 keeps-statement here (Node kind spot name number text children) room = keeps_on here (Start (Node kind spot name number text children)) [] room.now.1 room
 
 -- the parts of a plain loop
-keeps-test : (here : Here) (tree : Tree) (stay : ℕ) → IsRoomFor here (Test tree stay) → Keeps here (Test tree stay) (test_for here tree stay)
+keeps-test : (here : StepStart) (tree : Tree) (stay : ℕ) → IsRoomFor here (Test tree stay) → Keeps here (Test tree stay) (test_for here tree stay)
 unfolding Slotted
 keeps-test here tree stay room =
     keeps_result here (Test tree stay) (test_value here tree) _ (λ number.
@@ -357,7 +357,7 @@ keeps-test here tree stay room =
     (keeps_with here (Test tree stay) stay room.now.1 room)
     (keeps_on here (Test tree stay) (Start (child_at tree 3) ∷ Third tree stay ∷ []) (room.now.0, room.now) room))
 
-keeps-inside : (here : Here) (construct : Tree) → IsRoomFor here (Inside construct)
+keeps-inside : (here : StepStart) (construct : Tree) → IsRoomFor here (Inside construct)
     → Keeps here (Inside construct) (begin_inside (kind_of construct) here construct)
 keeps-inside here (Node (node.Construct directive.ParallelFor) spot name number text children) room =
     let tree = Node (node.Construct directive.ParallelFor) spot name number text children in
@@ -376,7 +376,7 @@ unfolding Slotted
 barrier-slotted program true construct items slots now = now
 barrier-slotted program false construct items slots now = now
 
-pub keeps_item : (item : Item) (here : Here) → IsRoomFor here item → Keeps here item (step_of item here)
+pub keeps_item : (item : Item) (here : StepStart) → IsRoomFor here item → Keeps here item (step_of item here)
 unfolding Keeps Slotted
 keeps_item (Start tree) here room = keeps-statement here tree room
 keeps_item (Declare tree) here room = keeps-declares here (Declare tree) room tree room.now

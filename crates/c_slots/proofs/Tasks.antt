@@ -24,12 +24,12 @@ use Rattle.c_model.specs.Begin.{created_construct, explicit_task, forked_constru
 use Rattle.c_model.specs.Calls.{file_bound}
 use Rattle.c_model.specs.Clauses.{construct_statement, sections_of}
 use Rattle.c_model.specs.Copies.{combines, makes_cells}
-use Rattle.c_model.specs.Going.{after_answer, after_event, answered_at, items_answered, items_of_chunk, items_of_section, items_of_test, passed_at}
-use Rattle.c_model.specs.Step.{is_masked, is_passed_over, items_from_next, settled_moment, settled_task, silent, step_at}
-use Rattle.c_model.specs.Task.{Here, Item, Moment, Outcome, SharedLoop, Task}
+use Rattle.c_model.specs.AfterEvents.{after_answer, after_event, answered_at, items_answered, items_of_chunk, items_of_section, items_of_test, passed_at}
+use Rattle.c_model.specs.Step.{is_masked, skips_masked, items_from_next, settled_moment, settled_task, silent, step_at}
+use Rattle.c_model.specs.Task.{StepStart, Item, Moment, Outcome, SharedLoop, Task}
 use Rattle.c_model.specs.Task.Item.{Start, Forked, NextChunk, NextSection, EndWork, Sync, TestLock}
 use Rattle.c_model.specs.Task.Outcome.{StepsTo, Occurs}
-use Rattle.c_model.specs.Made.{AreCopiesInScope, slots_of}
+use Rattle.c_model.specs.UsedCells.{AreCopiesInScope, slots_of}
 use Rattle.c_slots.specs.Slotted.{IsCallSlotted, IsConstructPlaced, IsPlaced, IsSlotted, IsWellSlotted, Slotted}
 use Rattle.c_slots.proofs.Parts.{copies_placed}
 use Rattle.c_slots.proofs.Standing.{nothing_placed, part_left, placed_wider}
@@ -49,7 +49,7 @@ settled-start program false tree items settled slots each now = now
 
 settled-by : (program : TreeView) (view : View) (item : Item) (items settled : List Item) (slots : List ℕ)
     → (Slotted program items slots → Slotted program settled slots) → Slotted program (item ∷ items) slots
-    → Slotted program (if is_passed_over item view then settled else item ∷ items) slots
+    → Slotted program (if skips_masked item view then settled else item ∷ items) slots
 settled-by program view (Start tree) items settled slots each now =
     settled-start program (is_masked (kind_of tree) && not (view.index == 0)) tree items settled slots each now
 settled-by program view other items settled slots each now = now
@@ -65,7 +65,7 @@ pub settled_is_slotted : (program : TreeView) (view : View) (task : Task) → Is
 settled_is_slotted program view task is = record { now = settled-items program view task.todo (slots_of task.env) is.now; calls = is.calls }
 
 -- steps and events
-abbrev pub here_at : TreeView → View → Moment → List Item → Here
+abbrev pub here_at : TreeView → View → Moment → List Item → StepStart
 here_at program view now items = record { program = program; view = view; task = record now.task { todo = items }; store = now.store }
 
 kept : (program : TreeView) (view : View) (now : Moment) (item : Item) (items : List Item) (outcome : Outcome) → IsWellSlotted program

@@ -1,3 +1,3 @@
 pub mod OwnPlaces
 pub mod Slotted
-pub mod Coming
+pub mod CodesOfRun

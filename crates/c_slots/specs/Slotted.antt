@@ -20,7 +20,7 @@ use Rattle.c_model.specs.Calls.{file_bound}
 use Rattle.c_model.specs.Copies.{is_loop}
 use Rattle.c_model.specs.Formed.{IsFormed}
 use Rattle.c_model.specs.Loops.{declares_variable, loop_of}
-use Rattle.c_model.specs.Made.{slots_of}
+use Rattle.c_model.specs.UsedCells.{slots_of}
 use Rattle.c_model.specs.Program.{body_of, function_named, parameters_of}
 use Rattle.c_model.specs.Task.{Item, OpenCall, Task}
 use Rattle.c_model.specs.Task.Item.{Start, Declare, Leave, Test, Third, Initialise, Return, FallOff, Forked, Inside, MakeCells, NextChunk, Iterations}

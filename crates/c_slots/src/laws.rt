@@ -9,15 +9,15 @@ ghost use Rattle.c_model.specs.declared.point.Point.{Point as Event};
 ghost use Rattle.c_model.specs.declared.point.Point.TheVariants.{TaskCreate};
 ghost use Rattle.c_model.specs.declared.question.Answer.{Answer as Given};
 ghost use Rattle.c_model.specs.Begin.{explicit_task, main_task, member_task};
-ghost use Rattle.c_model.specs.Going.{after_answer, after_event};
+ghost use Rattle.c_model.specs.AfterEvents.{after_answer, after_event};
 ghost use Rattle.c_model.specs.Task.{Moment, Task};
 ghost use Rattle.c_model.specs.Task.Outcome.{Occurs, StepsTo};
 ghost use Rattle.c_model.specs.Step.{settled_task, silent};
 ghost use Rattle.c_model.specs.Formed.{IsProgramFormed};
 ghost use Rattle.c_model.specs.Scoped.{IsScoped, IsWellScoped};
-ghost use Rattle.c_model.specs.Made.{AreCopiesInScope, IsTaskMade};
+ghost use Rattle.c_model.specs.UsedCells.{AreCopiesInScope, IsTaskMade};
 ghost use Rattle.c_syntax.specs.language.Texts.{Spells};
-ghost use Rattle.c_slots.specs.Coming.{ComesTo, IsWhole};
+ghost use Rattle.c_slots.specs.CodesOfRun.{ComesTo, IsWhole};
 ghost use Rattle.c_slots.specs.OwnPlaces.{HasOwnPlaces};
 ghost use Rattle.c_slots.specs.Slotted.{IsSlotted, IsWellSlotted};
 

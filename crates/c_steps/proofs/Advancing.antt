@@ -11,13 +11,13 @@ use Rattle.c_model.proofs.WidthSteps.{step_is_within}
 use Rattle.c_steps.specs.declared.item.Item.{Item}
 use Rattle.c_steps.specs.declared.next.Next.{Next}
 use Rattle.c_steps.specs.declared.next.Next.TheVariants as next
-use Rattle.c_steps.specs.Held.{Held, here_at, moment_at, outcome_at, task_at}
+use Rattle.c_steps.specs.ControlView.{ControlView, here_at, moment_at, outcome_at, task_at}
 use Rattle.c_steps.specs.Items.{begun, item_at, todo_at}
-use Rattle.c_steps.specs.Made.{IsMadeFor}
+use Rattle.c_steps.specs.OfProgram.{IsMadeFor}
 use Rattle.c_steps.specs.Advancing.{IsKept, IsLeft}
 use Rattle.c_steps.specs.Ready.{AreFrames, IsFront, IsSettled, IsUnchanging}
 
-module _ (program : TreeView) (view : View) (old settled : Held) (store : Store) (same : task_at program settled ≡ settled_task view (task_at program old)) where
+module _ (program : TreeView) (view : View) (old settled : ControlView) (store : Store) (same : task_at program settled ≡ settled_task view (task_at program old)) where
   next_items : items_from_next view (todo_at program old.frames) ≡ todo_at program settled.frames
   next_items = sym (ap Task.todo same)
 
@@ -38,16 +38,16 @@ module _ (program : TreeView) (view : View) (old settled : Held) (store : Store)
   pub made_settled : IsMadeFor program old → settled ≡ record old { frames = settled.frames } → AreFrames program settled.frames → IsMadeFor program settled
   made_settled made rest frames = record {
     are_frames = frames;
-    brings = ap Held.step_names rest ∙ made.brings;
-    fits = omega (arith, made.fits, ap Held.room rest);
+    brings = ap ControlView.step_names rest ∙ made.brings;
+    fits = omega (arith, made.fits, ap ControlView.room rest);
     is_within = subst (IsWithin program) (sym same) (settled_is_within program view (task_at program old) made.is_within);
   }
 
-  pub made_after : (new : Held) (after : Store) (result : Next) → IsMadeFor program old → settled ≡ record old { frames = settled.frames } → AreFrames program settled.frames → AreFrames program new.frames → IsSettled result settled store new after → outcome_at program result (moment_at program new after) ≡ silent program view (moment_at program old store) → IsMadeFor program new
+  pub made_after : (new : ControlView) (after : Store) (result : Next) → IsMadeFor program old → settled ≡ record old { frames = settled.frames } → AreFrames program settled.frames → AreFrames program new.frames → IsSettled result settled store new after → outcome_at program result (moment_at program new after) ≡ silent program view (moment_at program old store) → IsMadeFor program new
   made_after new after next.Quiet made rest before frames left step = record {
     are_frames = frames;
-    brings = left.step_names ∙ ap Held.step_names rest ∙ made.brings;
-    fits = omega (arith, made.fits, left.room, ap Held.room rest);
+    brings = left.step_names ∙ ap ControlView.step_names rest ∙ made.brings;
+    fits = omega (arith, made.fits, left.room, ap ControlView.room rest);
     is_within = step_is_within program view (moment_at program old store) (moment_at program new after) made.is_within (sym step);
   }
   made_after new after (next.Ask ask node) made rest before frames left step = subst (IsMadeFor program) (sym left.0) (made_settled made rest before)
@@ -60,10 +60,10 @@ module _ (program : TreeView) (view : View) (old settled : Held) (store : Store)
   left_settled rest = record {
     task = same;
     store = refl;
-    spare = ap Held.spare rest;
-    passes = ap Held.passes rest;
-    step_names = ap Held.step_names rest;
-    room = ap Held.room rest;
+    spare = ap ControlView.spare rest;
+    passes = ap ControlView.passes rest;
+    step_names = ap ControlView.step_names rest;
+    room = ap ControlView.room rest;
   }
 
   pub kept_unchanging : (result : Next) → settled ≡ record old { frames = settled.frames } → IsUnchanging result → IsKept program view result old store settled store

@@ -21,7 +21,7 @@ use Rattle.c_steps.specs.declared.frame.Frame.TheVariants as frame
 use Rattle.c_steps.specs.declared.item.Item.{Item}
 use Rattle.c_steps.specs.declared.item.Item.TheVariants as item
 use Rattle.c_steps.specs.Around.{frame_has, frames_have, is_such, item_is}
-use Rattle.c_steps.specs.Held.{Held, task_at}
+use Rattle.c_steps.specs.ControlView.{ControlView, task_at}
 use Rattle.c_steps.specs.Items.{calls_at, combining_from, item_at, items_at, parts_left, todo_at, with_file}
 use Rattle.c_steps.specs.ListedNames.{listed_from}
 use Rattle.c_steps.specs.Rests.{parts_from}
@@ -104,7 +104,7 @@ module _ (program : TreeView) (such : Around) where
       ∙ around-is frames names
   around-is (frame.Caller base to ∷ frames) names = around-is frames (take base names)
 
-  pub task_around : (held : Held) → has_such (is_such such) (task_at program held) ≡ frames_have such held.frames
+  pub task_around : (held : ControlView) → has_such (is_such such) (task_at program held) ≡ frames_have such held.frames
   task_around held = around-is held.frames (take held.base held.names)
 
 -- frame by frame, from the top

@@ -9,7 +9,7 @@ use Rattle.c_steps.specs.declared.frame.Frame.{Frame}
 use Rattle.c_steps.specs.declared.frame.Frame.TheVariants as frame
 use Rattle.c_steps.specs.declared.item.Item.{Item}
 use Rattle.c_steps.specs.Items.{todo_at}
-use Rattle.c_steps.specs.Standing.{ItemTells}
+use Rattle.c_steps.specs.FrontFrame.{ItemTells}
 use Rattle.c_steps.proofs.Settling.{top_frame}
 
 by-front : (program : TreeView) (view : View) (it : Item) (upcoming : Upcoming) (frames : List Frame) → ItemTells program it upcoming →

@@ -12,15 +12,15 @@ use Rattle.c_model.specs.declared.point.Target.{Target}
 use Rattle.c_model.specs.declared.view.View.{View}
 use Rattle.c_model.specs.Calls.{begin_call, behind_first, bound_in, enters, file_bound, first_or_zero, open_call, with_parameters}
 use Rattle.c_model.specs.Cells.{Bound, has_too_many, with_cells}
-use Rattle.c_model.specs.Coming.{with_result}
+use Rattle.c_model.specs.StepOutcomes.{with_result}
 use Rattle.c_model.specs.Parts.{parts}
 use Rattle.c_model.specs.Program.{function_named, parameters_of}
-use Rattle.c_model.specs.Task.{Here, Outcome, Store}
+use Rattle.c_model.specs.Task.{StepStart, Outcome, Store}
 use Rattle.c_model.specs.Task.Outcome.{Limits, StepsTo}
 use Rattle.c_model.specs.Value.{Scope, all_values}
 use Rattle.c_steps.specs.Arguments.{values_in, without_values}
 use Rattle.c_steps.specs.Entering.{HaveNoTrap, moment_entered}
-use Rattle.c_steps.specs.Held.{Held, here_at, scope_in}
+use Rattle.c_steps.specs.ControlView.{ControlView, here_at, scope_in}
 use Rattle.c_steps.specs.Rooming.{open_calls}
 use Rattle.c_steps.proofs.Frames.{calls_counted}
 use Rattle.c_steps.proofs.ValuesAll.{ok_values}
@@ -42,8 +42,8 @@ pub have_no_trap : (scope : Scope) (call : Tree) → Ok tt ≡ without_values (a
 unfolding from_place
 have_no_trap scope call ok = record { ok = sym ok }
 
-module _ (program : TreeView) (view : View) (held : Held) (store : Store) (call function : Tree) (env : List Entry) (to : Target) where
-  abbrev here : Here
+module _ (program : TreeView) (view : View) (held : ControlView) (store : Store) (call function : Tree) (env : List Entry) (to : Target) where
+  abbrev here : StepStart
   here = here_at program view held store
 
   abbrev numbers : List ℤ

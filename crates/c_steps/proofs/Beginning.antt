@@ -14,9 +14,9 @@ use Rattle.c_model.proofs.WidthTasks.{main_is_within}
 use Rattle.c_steps.specs.declared.frame.Frame.{Frame}
 use Rattle.c_steps.specs.declared.frame.Frame.TheVariants as frame
 use Rattle.c_steps.specs.declared.item.Item.TheVariants as item
-use Rattle.c_steps.specs.Held.{Held, task_at}
+use Rattle.c_steps.specs.ControlView.{ControlView, task_at}
 use Rattle.c_steps.specs.Items.{calls_at, file_names, todo_at}
-use Rattle.c_steps.specs.Made.{IsMadeFor, blank_held}
+use Rattle.c_steps.specs.OfProgram.{IsMadeFor, blank_held}
 use Rattle.c_steps.specs.Moves.{cleared, opened, roomy, then_item}
 use Rattle.c_steps.specs.Nodes.{IsPart, part_at}
 use Rattle.c_steps.specs.Ready.{IsFrame}
@@ -27,11 +27,11 @@ file-alone : (program : TreeView) → length (file_names program ++ []) ≤ widt
 unfolding file_names
 file-alone program = rw (append-nil (file_names program)) (omega arith)
 
-pub blank_within : (program : TreeView) (held : Held) → IsWithin program (task_at program (cleared held))
+pub blank_within : (program : TreeView) (held : ControlView) → IsWithin program (task_at program (cleared held))
 unfolding todo_at calls_at most_names
 blank_within program held = record { now = file-alone program; calls = All-nil (IsCallWithin program) }
 
-pub made_cleared : (program : TreeView) (held : Held) → IsMadeFor program held → IsMadeFor program (cleared held)
+pub made_cleared : (program : TreeView) (held : ControlView) → IsMadeFor program held → IsMadeFor program (cleared held)
 made_cleared program held made =
     record { are_frames = All-nil (IsFrame program); brings = made.brings; fits = made.fits; is_within = blank_within program held }
 
@@ -39,7 +39,7 @@ pub made_blank : (program : TreeView) → IsMadeFor program (blank_held program)
 made_blank program =
     record { are_frames = All-nil (IsFrame program); brings = refl; fits = omega arith; is_within = blank_within program (blank_held program) }
 
-pub made_roomy : (program : TreeView) (held : Held) → IsMadeFor program held → IsMadeFor program (roomy held)
+pub made_roomy : (program : TreeView) (held : ControlView) → IsMadeFor program held → IsMadeFor program (roomy held)
 made_roomy program held made = record { are_frames = made.are_frames; brings = made.brings; fits = made.fits; is_within = made.is_within }
 
 -- main
@@ -66,6 +66,6 @@ unfolding open_calls
 room_of_none free_frames free_names step_names room frames names none entries least enough =
     record { base = omega arith; entries = entries; frames = omega arith; names = omega arith; room = enough; counted = rw none refl }
 
-pub none_open : (program : TreeView) (held : Held) → held ≡ blank_held program → open_calls held.frames < CALL_LIMIT
+pub none_open : (program : TreeView) (held : ControlView) → held ≡ blank_held program → open_calls held.frames < CALL_LIMIT
 unfolding open_calls
 none_open program held is = rw is (omega arith)

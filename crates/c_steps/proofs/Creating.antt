@@ -21,21 +21,21 @@ use Rattle.c_model.specs.Begin.{created_construct}
 use Rattle.c_model.specs.Calls.{begin_lock_call, begin_return_of, begin_right}
 use Rattle.c_model.specs.Cells.{Bound}
 use Rattle.c_model.specs.Clauses.{condition_of, requested_threads}
-use Rattle.c_model.specs.Coming.{bound_of, scope_of, value_here, with_result}
+use Rattle.c_model.specs.StepOutcomes.{bound_of, scope_of, value_here, with_result}
 use Rattle.c_model.specs.Constructs.{begin_loop, begin_parallel, begin_task, value_or}
 use Rattle.c_model.specs.Copies.{with_task_cells}
 use Rattle.c_model.specs.Loops.{loop_of}
 use Rattle.c_model.specs.Program.{place_of}
 use Rattle.c_model.proofs.Fitting.{Fits}
 use Rattle.c_model.specs.Step.{begin_construct, begin_inside, begin_standalone, begin_statement, items_from_next, silent, step_at, step_of}
-use Rattle.c_model.specs.Task.{Here, Item, Moment, Outcome, Store, Task}
+use Rattle.c_model.specs.Task.{StepStart, Item, Moment, Outcome, Store, Task}
 use Rattle.c_model.specs.Task.Item.{Start, Initialise, Forked, Inside, EndWork, EndMasked, Sync, Acquire, Release}
 use Rattle.c_model.specs.Task.Outcome.{StepsTo, Asks, Occurs, Ends, Traps, Limits}
 use Rattle.c_model.specs.Value.{cell_of, is_zero}
 use Rattle.c_model.proofs.Standing.{fits-call, fits-item, fits-return, fits-statement}
 use Rattle.c_steps.specs.Advancing.{IsLeft}
 use Rattle.c_steps.specs.Beginning.{IsCreation}
-use Rattle.c_steps.specs.Held.{Held, bound_in, moment_at}
+use Rattle.c_steps.specs.ControlView.{ControlView, bound_in, moment_at}
 use Rattle.c_steps.specs.Items.{todo_at}
 
 -- the first of these items creates an explicit task, for whose cells there is room
@@ -63,17 +63,17 @@ module _ (program : TreeView) (around : Bound) (items : List Item) where
   by-result (Ok a) next each = each a
   by-result (Err trap) next each = tt
 
-  by-right : (kind : NodeKind) (here : Here) (call : Tree) (env : List Entry) (to : Target) → IsCreatedBy program around items (begin_right kind here call env to)
+  by-right : (kind : NodeKind) (here : StepStart) (call : Tree) (env : List Entry) (to : Target) → IsCreatedBy program around items (begin_right kind here call env to)
   unfolding IsCreatedBy
   by-right node.TestLock here call env to = tt
   by-right other here call env to = by-quiet (begin_right other here call env to) (fits-call here call env to)
 
-  by-return : (kind : NodeKind) (here : Here) (right : Tree) → IsCreatedBy program around items (begin_return_of kind here right)
+  by-return : (kind : NodeKind) (here : StepStart) (right : Tree) → IsCreatedBy program around items (begin_return_of kind here right)
   unfolding IsCreatedBy
   by-return node.TestLock here right = tt
   by-return other here right = by-quiet (begin_return_of other here right) (fits-return other here right)
 
-  by-lock : (which : LockCall) (here : Here) (tree : Tree) → IsCreatedBy program around items (begin_lock_call which here tree)
+  by-lock : (which : LockCall) (here : StepStart) (tree : Tree) → IsCreatedBy program around items (begin_lock_call which here tree)
   unfolding IsCreatedBy
   by-lock lock.Init here tree = tt
   by-lock lock.Destroy here tree = tt
@@ -85,15 +85,15 @@ module _ (program : TreeView) (around : Bound) (items : List Item) where
   by-standalone standalone.Barrier tree = tt
   by-standalone standalone.Taskwait tree = tt
 
-  by-parallel : (here : Here) (tree : Tree) → IsCreatedBy program around items (begin_parallel here tree)
+  by-parallel : (here : StepStart) (tree : Tree) → IsCreatedBy program around items (begin_parallel here tree)
   unfolding IsCreatedBy
   by-parallel here tree = by-result (value_or (pos here.view.max) here (requested_threads tree)) _ (λ number. tt)
 
-  by-loop : (here : Here) (tree : Tree) → IsCreatedBy program around items (begin_loop here tree)
+  by-loop : (here : StepStart) (tree : Tree) → IsCreatedBy program around items (begin_loop here tree)
   unfolding IsCreatedBy
   by-loop here tree = by-result (value_here here (loop_of tree).start) _ (λ start. by-result (value_here here (loop_of tree).end) _ (λ end. tt))
 
-  by-inside : (kind : NodeKind) (here : Here) (tree : Tree) → IsCreatedBy program around items (begin_inside kind here tree)
+  by-inside : (kind : NodeKind) (here : StepStart) (tree : Tree) → IsCreatedBy program around items (begin_inside kind here tree)
   unfolding IsCreatedBy
   by-inside (node.Construct directive.ParallelFor) here tree = by-loop here tree
   by-inside (node.Construct directive.ParallelSections) here tree = tt
@@ -107,7 +107,7 @@ module _ (program : TreeView) (around : Bound) (items : List Item) where
 within : (count : ℕ) → nat_lt CELL_LIMIT count ≡ false → count ≤ CELL_LIMIT
 within count is = grind (arith, is)
 
-module _ (here : Here) (items : List Item) where
+module _ (here : StepStart) (items : List Item) where
   by-task : (tree : Tree) → kind_of tree ≡ node.Construct directive.Task → IsCreatedBy here.program (bound_of here) (Start tree ∷ items) (begin_task here tree)
   by-task tree is =
       by-result here.program (bound_of here) (Start tree ∷ items) (value_or (pos 1) here (condition_of tree)) _ (λ number.
@@ -168,7 +168,7 @@ module _ (program : TreeView) (view : View) where
   creating_next now codeptr undeferred tree is =
       subst (IsCreatedBy program (around now) (items_from_next view now.task.todo)) is (by-next (items_from_next view now.task.todo) now)
 
-  module _ (old new : Held) (before after : Store) (codeptr : ℕ) (undeferred : Bool) (at : ℕ) (left : IsLeft program view old before new after) (event : Occurs (TaskCreate codeptr undeferred) (tree_at program.trees at) ≡ silent program view (moment_at program old before)) where
+  module _ (old new : ControlView) (before after : Store) (codeptr : ℕ) (undeferred : Bool) (at : ℕ) (left : IsLeft program view old before new after) (event : Occurs (TaskCreate codeptr undeferred) (tree_at program.trees at) ≡ silent program view (moment_at program old before)) where
     -- when an advance has answered that a task is created, the task can begin
     creating-stands : IsCreating program (bound_in program new after) (todo_at program new.frames)
     creating-stands =

@@ -20,9 +20,9 @@ use Rattle.c_model.proofs.WidthTrees.{split}
 use Rattle.c_steps.specs.Beginning.{IsCreation, created_of}
 use Rattle.c_steps.specs.declared.frame.Frame.TheVariants as frame
 use Rattle.c_steps.specs.declared.item.Item.TheVariants as item
-use Rattle.c_steps.specs.Held.{Held, bound_in, env_at, moment_at, task_at}
+use Rattle.c_steps.specs.ControlView.{ControlView, bound_in, env_at, moment_at, task_at}
 use Rattle.c_steps.specs.Items.{calls_at, file_names, todo_at}
-use Rattle.c_steps.specs.Made.{IsMadeFor}
+use Rattle.c_steps.specs.OfProgram.{IsMadeFor}
 use Rattle.c_steps.specs.Moves.{beginning, then_item}
 use Rattle.c_steps.specs.Nodes.{IsPart, part_at}
 use Rattle.c_steps.specs.OwnCells.{made_task, with_made, with_made_cells}
@@ -31,7 +31,7 @@ use Rattle.c_steps.proofs.Giving.{nothing_past, same_task}
 use Rattle.c_steps.proofs.OwnNames.{listed_within}
 use Rattle.c_steps.proofs.TaskNames.{task_appends}
 
-pub none_created : (program : TreeView) (view : View) (held : Held) (first : Option SeenItem) → view.index ≡ 0 → IsCreation (slice_get (todo_at program held.frames) 0) → slice_get (items_from_next view (todo_at program held.frames)) 0 ≡ first → (IsCreation first → ⊥) → ⊥
+pub none_created : (program : TreeView) (view : View) (held : ControlView) (first : Option SeenItem) → view.index ≡ 0 → IsCreation (slice_get (todo_at program held.frames) 0) → slice_get (items_from_next view (todo_at program held.frames)) 0 ≡ first → (IsCreation first → ⊥) → ⊥
 none_created program view held first index has is none =
     none (subst IsCreation (sym (ap (λ (items : List SeenItem). slice_get items 0) (nothing_past view (todo_at program held.frames) index)) ∙ is) has)
 
@@ -46,7 +46,7 @@ created_names program (seen.Start own ∷ items) names construct is = let same :
 created_names program [] names construct is = absurd (search rules)
 created_names program (it ∷ items) names construct is = absurd (search rules)
 
-module _ (program : TreeView) (view : View) (held into : Held) (node : ℕ) (first : view.index ≡ 0) (is : created_of (slice_get (items_from_next view (todo_at program held.frames)) 0) ≡ Some (tree_at program.trees node)) where
+module _ (program : TreeView) (view : View) (held into : ControlView) (node : ℕ) (first : view.index ≡ 0) (is : created_of (slice_get (items_from_next view (todo_at program held.frames)) 0) ≡ Some (tree_at program.trees node)) where
   abbrev tree : Tree
   tree = tree_at program.trees node
 
@@ -68,7 +68,7 @@ module _ (program : TreeView) (view : View) (held into : Held) (node : ℕ) (fir
     cells_fit room =
         subst (λ (bound : Bound). length bound.cells ≤ CELL_LIMIT) (ap (λ construct. with_task_cells program (bound_in program held before) construct) created_here ∙ task_appends program (bound_in program held before) tree) room
 
-    module _ (part : Option ℕ) (statement : part_at program.trees part ≡ construct_statement tree) (new : Held) (after : Store)
+    module _ (part : Option ℕ) (statement : part_at program.trees part ≡ construct_statement tree) (new : ControlView) (after : Store)
         (control : new ≡ then_item (item.Start part) (with_made (made_task program (bound_in program held before) before.cells tree) (beginning (drop held.base held.names) into)))
         (cells : after ≡ with_made_cells (made_task program (bound_in program held before) before.cells tree) before) where
       pub task_stands : moment_at program new after ≡ explicit_task_of program (created_construct (todo_at program held.frames)) (moment_at program held before)
@@ -84,8 +84,8 @@ module _ (program : TreeView) (view : View) (held into : Held) (node : ℕ) (fir
       pub task_made : IsPart program.trees part → IsMadeFor program held → IsMadeFor program into → IsMadeFor program new
       task_made there made room = record {
         are_frames = rw control (All-cons (IsFrame program) (frame.One (item.Start part)) [] there (All-nil (IsFrame program)));
-        brings = ap (λ (held : Held). held.step_names) control ∙ room.brings;
-        fits = let same : new.room ≡ into.room = ap (λ (held : Held). held.room) control in let fits = room.fits in omega (arith, same, fits);
+        brings = ap (λ (held : ControlView). held.step_names) control ∙ room.brings;
+        fits = let same : new.room ≡ into.room = ap (λ (held : ControlView). held.room) control in let fits = room.fits in omega (arith, same, fits);
         is_within =
             subst (λ (now : Moment). IsWithin program now.task)
             (ap (λ (task : Task). explicit_task_of program (created_construct task.todo) (moment_at program held before)) (same_task view (task_at program held) first) ∙ sym task_stands)

@@ -13,7 +13,7 @@ use Rattle.c_steps.specs.declared.item.Item.{Item}
 use Rattle.c_steps.specs.declared.next.Next.{Next}
 use Rattle.c_steps.specs.declared.next.Next.TheVariants as next
 use Rattle.c_steps.specs.Advancing.{IsNamed}
-use Rattle.c_steps.specs.Held.{Held, here_at, moment_at, outcome_at}
+use Rattle.c_steps.specs.ControlView.{ControlView, here_at, moment_at, outcome_at}
 use Rattle.c_steps.specs.Items.{begun, item_at, todo_at}
 use Rattle.c_steps.specs.Passing.{IsEventOf, IsEventOfNext}
 use Rattle.c_steps.specs.Ready.{FitsProgram, IsFront, IsSettled}
@@ -26,7 +26,7 @@ ask-first : (ask : Ask) (program : TreeView) (node : ℕ) (it : SeenItem) (items
 unfolding IsAskOfNext
 ask-first ask program node it items is = is
 
-module _ (program : TreeView) (view : View) (settled new : Held) (store after : Store) (it : Item) (front : IsFront program settled.frames it) where
+module _ (program : TreeView) (view : View) (settled new : ControlView) (store after : Store) (it : Item) (front : IsFront program settled.frames it) where
   -- the step of what stands next
   pub named_front : (result : Next) → outcome_at program result (moment_at program new after) ≡ step_of (item_at program it) (here_at program view settled store) → IsSettled result settled store new after → FitsProgram program result → IsNamed program result new
   named_front (next.Event point node) step left fits =
@@ -37,12 +37,12 @@ module _ (program : TreeView) (view : View) (settled new : Held) (store after : 
         is_node = event_is_at_item (item_at program it) here point (tree_at program.trees node) (sym step);
         numbers = fits.1;
       } in
-      subst (λ (held : Held). IsEventOfNext program point node (todo_at program held.frames)) (sym left.0)
+      subst (λ (held : ControlView). IsEventOfNext program point node (todo_at program held.frames)) (sym left.0)
       (subst (IsEventOfNext program point node) (sym front.todo) (event-first program point node (item_at program it) (todo_at program (begun settled.frames)) is))
   named_front (next.Ask ask node) step left fits =
       let here = here_at program view settled store in
       let is = question_is_of_item (item_at program it) here ask (tree_at program.trees node) (sym step) in
-      subst (λ (held : Held). IsAskOfNext ask (tree_at program.trees node) (todo_at program held.frames)) (sym left.0)
+      subst (λ (held : ControlView). IsAskOfNext ask (tree_at program.trees node) (todo_at program held.frames)) (sym left.0)
       (subst (IsAskOfNext ask (tree_at program.trees node)) (sym front.todo) (ask-first ask program node (item_at program it) (todo_at program (begun settled.frames)) is))
   named_front next.Quiet step left fits = tt
   named_front (next.Ended number) step left fits = tt

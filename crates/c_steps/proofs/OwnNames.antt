@@ -16,7 +16,7 @@ use Rattle.c_model.specs.Clauses.{Listed, clauses_of, listed_among}
 use Rattle.c_model.specs.Copies.{is_loop, is_own_loop_variable, listed_variables, loop_slot, with_listed, with_loop_variable, with_own_cells, with_slots}
 use Rattle.c_model.specs.Loops.{loop_of}
 use Rattle.c_model.specs.Task.{Store}
-use Rattle.c_steps.specs.Held.{Held, bound_in, here_at, moment_at}
+use Rattle.c_steps.specs.ControlView.{ControlView, bound_in, here_at, moment_at}
 use Rattle.c_steps.specs.Items.{begun, calls_at, file_names}
 use Rattle.c_steps.specs.Moves.{bound, stepping}
 use Rattle.c_steps.specs.OwnCells.{Copy, around_at, copy_entry, copy_numbers, listed_copy, made_copies, made_listed, made_own, slot_copy, with_copies, with_made, with_made_cells, with_numbers}
@@ -99,7 +99,7 @@ range_whole : (base : ℕ) (names : List Entry) → base ≤ length names → sl
 range_whole base names from = take_all (length names - base) (drop base names) (omega (arith, length-drop base names))
 
 -- So many of the copies are made, of variables among the first so many names, and where so many cells were there before.
-pub record IsMaking (program : TreeView) (around : Bound) (names count : ℕ) (left whole : List Copy) (old held : Held) (before store : Store) : Type 0 where
+pub record IsMaking (program : TreeView) (around : Bound) (names count : ℕ) (left whole : List Copy) (old held : ControlView) (before store : Store) : Type 0 where
   pub env : held.names ++ (made_copies around store.cells left).env ≡ old.names ++ (made_copies around before.cells whole).env
   pub cells : (made_copies around store.cells left).cells ≡ (made_copies around before.cells whole).cells
   pub rest : held ≡ record old { names = held.names; names_now = held.names_now }
@@ -111,7 +111,7 @@ pub record IsMaking (program : TreeView) (around : Bound) (names count : ℕ) (l
   pub seen : around_at program held names store count ≡ around
   pub free : length left ≤ held.names_now
 
-module _ (program : TreeView) (whole : List Copy) (old : Held) (before : Store) where
+module _ (program : TreeView) (whole : List Copy) (old : ControlView) (before : Store) where
   pub making_start : (around : Bound) (names count : ℕ) → old.base ≤ names → names ≤ length old.names → count ≤ length before.cells → around_at program old names before count ≡ around → length whole ≤ old.names_now →
       IsMaking program around names count whole whole old old before before
   making_start around names count base within counted is free =
@@ -132,7 +132,7 @@ module _ (program : TreeView) (whole : List Copy) (old : Held) (before : Store) 
   pub around_start : old.base ≤ length old.names → around_at program old (length old.names) before (length before.cells) ≡ bound_in program old before
   around_start base = rw (range_whole old.base old.names base, take_all (length before.cells) before.cells (omega arith)) refl
 
-  module _ (around : Bound) (names count : ℕ) (held : Held) (store : Store) where
+  module _ (around : Bound) (names count : ℕ) (held : ControlView) (store : Store) where
     pub making_end : IsMaking program around names count [] whole old held before store → held ≡ with_made (made_copies around before.cells whole) old
     unfolding with_copies
     making_end so =
@@ -149,7 +149,7 @@ module _ (program : TreeView) (whole : List Copy) (old : Held) (before : Store) 
       pub making_room : length (made_copies around before.cells whole).cells ≤ CELL_LIMIT → length store.cells + length (copy_numbers around one) ≤ CELL_LIMIT
       making_room room = first_fits around store.cells one rest (omega (arith, room, ap length so.cells))
 
-      pub making_more : (new : Held) (after : Store) → new ≡ bound (copy_entry around store.cells one) held → after ≡ with_numbers (copy_numbers around one) store →
+      pub making_more : (new : ControlView) (after : Store) → new ≡ bound (copy_entry around store.cells one) held → after ≡ with_numbers (copy_numbers around one) store →
           IsMaking program around names count rest whole old new before after
       making_more new after control numbers =
           let entry = copy_entry around store.cells one in
@@ -178,11 +178,11 @@ module _ (program : TreeView) (whole : List Copy) (old : Held) (before : Store) 
 one_less : (room : ℕ) (env : List Entry) (more : List Entry) → room - length env - length more ≡ room - length (env ++ more)
 one_less room env more = omega (arith, length-append env more)
 
-pub made_both : (first second : Bound) (held : Held) → with_made second (with_made first held) ≡ with_made (record { env = first.env ++ second.env; cells = second.cells }) held
+pub made_both : (first second : Bound) (held : ControlView) → with_made second (with_made first held) ≡ with_made (record { env = first.env ++ second.env; cells = second.cells }) held
 made_both first second held = rw (append_assoc held.names first.env second.env, one_less held.names_now first.env second.env) refl
 
 -- what is around a construct when its listed copies are made
-pub around_listed : (program : TreeView) (old held : Held) (before store : Store) (made : Bound) → old.base ≤ length old.names →
+pub around_listed : (program : TreeView) (old held : ControlView) (before store : Store) (made : Bound) → old.base ≤ length old.names →
     held ≡ with_made made old → take (length before.cells) store.cells ≡ before.cells → around_at program held (length old.names) store (length before.cells) ≡ bound_in program old before
 around_listed program old held before store made base control cells =
     rw (control, cells, range_before old.base (length old.names) old.names made.env base (omega arith), range_whole old.base old.names base) refl
@@ -254,7 +254,7 @@ pub own_fits : (program : TreeView) (around : Bound) (construct : Tree) → has_
 own_fits program around construct fits =
     within_limit (made_own program around around.cells construct).cells (sym (ap (λ all. has_too_many all.cells) (own_appends program construct around)) ∙ fits)
 
-module _ (program : TreeView) (view : View) (old : Held) (before : Store) (construct : Tree) (base : old.base ≤ length old.names) (calls : (names : List Entry) → calls_at program names (begun old.frames) ≡ calls_at program names old.frames) where
+module _ (program : TreeView) (view : View) (old : ControlView) (before : Store) (construct : Tree) (base : old.base ≤ length old.names) (calls : (names : List Entry) → calls_at program names (begun old.frames) ≡ calls_at program names old.frames) where
   own_moment :
       moment_at program (with_made (made_own program (bound_in program old before) before.cells construct) (stepping old)) (with_made_cells (made_own program (bound_in program old before) before.cells construct) before)
       ≡ record {
@@ -268,7 +268,7 @@ module _ (program : TreeView) (view : View) (old : Held) (before : Store) (const
       ap (λ own. file_names program ++ own) (drop-append-le old.base old.names made.env base) ∙ sym (append_assoc (file_names program) (drop old.base old.names) made.env) in
       rw (env, take-append-le old.base old.names made.env base, calls (take old.base old.names), own_appends program construct around) refl
 
-  pub own_step : (new : Held) (after : Store) →
+  pub own_step : (new : ControlView) (after : Store) →
       new ≡ with_made (made_own program (bound_in program old before) before.cells construct) (stepping old) →
       after ≡ with_made_cells (made_own program (bound_in program old before) before.cells construct) before →
       has_too_many (with_own_cells program (bound_in program old before) construct).cells ≡ false →

@@ -15,16 +15,16 @@ use Rattle.c_model.specs.Parts.{parts}
 use Rattle.c_model.specs.Task.{Store}
 use Rattle.c_model.specs.Value.{Scope}
 use Rattle.c_steps.specs.declared.control.entering.Caller.{Caller}
-use Rattle.c_steps.specs.declared.scope.Argument.{Argument}
+use Rattle.c_steps.specs.declared.evaluate.Argument.{Argument}
 use Rattle.c_steps.specs.Arguments.{values_in}
 use Rattle.c_steps.specs.Entering.{BindsParameter, HasMore, HaveNoTrap, IsCaller, IsNextArgument, arguments_from, bound_at, caller_scope}
-use Rattle.c_steps.specs.Held.{Held}
+use Rattle.c_steps.specs.ControlView.{ControlView}
 use Rattle.c_steps.specs.Items.{file_names}
 use Rattle.c_steps.specs.Moves.{bound}
 use Rattle.c_steps.specs.Rests.{parts_from}
 
 -- one parameter
-module _ (program : TreeView) (view : View) (caller : Caller) (call parameter : Tree) (place : ℕ) (held : Held) (store : Store) where
+module _ (program : TreeView) (view : View) (caller : Caller) (call parameter : Tree) (place : ℕ) (held : ControlView) (store : Store) where
   abbrev scope : Scope
   scope = caller_scope program view caller held store
 
@@ -73,16 +73,16 @@ module _ (program : TreeView) (view : View) (caller : Caller) (call parameter : 
   }
 
 -- more and more
-has_more_then : (old now new : Held) (before after latest : Store) → HasMore old now before after → HasMore now new after latest → HasMore old new before latest
+has_more_then : (old now new : ControlView) (before after latest : Store) → HasMore old now before after → HasMore now new after latest → HasMore old new before latest
 has_more_then old now new before after latest first then = record {
-  held = then.held ∙ ap (λ (held : Held). record held { names = new.names; names_now = new.names_now }) first.held;
+  held = then.held ∙ ap (λ (held : ControlView). record held { names = new.names; names_now = new.names_now }) first.held;
   store = then.store ∙ ap (λ (store : Store). record store { cells = latest.cells }) first.store;
-  older = subst (λ (base : ℕ). take base new.names ≡ take base now.names) (ap (λ (held : Held). held.base) first.held) then.older ∙ first.older;
+  older = subst (λ (base : ℕ). take base new.names ≡ take base now.names) (ap (λ (held : ControlView). held.base) first.held) then.older ∙ first.older;
   longer = omega (arith, first.longer, then.longer);
 }
 
 -- Some parameters have come into scope, and the others are left, behind these places of parameters and arguments.
-pub record IsUnderWay (program : TreeView) (view : View) (caller : Caller) (call parameters : Tree) (old now : Held) (before after : Store) (place argument : ℕ) : Type 0 where
+pub record IsUnderWay (program : TreeView) (view : View) (caller : Caller) (call parameters : Tree) (old now : ControlView) (before after : Store) (place argument : ℕ) : Type 0 where
   pub bound : with_parameters program (bound_at program now after) (parts_from parameters place) (values_in (arguments_from (caller_scope program view caller old before) call argument))
       ≡ with_parameters program (bound_at program old before) (parts parameters) (values_in (arguments_from (caller_scope program view caller old before) call 0))
   pub more : HasMore old now before after
@@ -93,7 +93,7 @@ pub record IsUnderWay (program : TreeView) (view : View) (caller : Caller) (call
   pub names : length (parts_from parameters place) ≤ now.names_now
   pub room : length after.cells + length (parts_from parameters place) ≤ CELL_LIMIT
 
-module _ (program : TreeView) (view : View) (caller : Caller) (call parameters : Tree) (old : Held) (before : Store) where
+module _ (program : TreeView) (view : View) (caller : Caller) (call parameters : Tree) (old : ControlView) (before : Store) where
   abbrev first_scope : Scope
   first_scope = caller_scope program view caller old before
 
@@ -112,7 +112,7 @@ module _ (program : TreeView) (view : View) (caller : Caller) (call parameters :
   }
 
   -- one parameter more
-  pub under_way_next : (now new : Held) (after latest : Store) (place argument next : ℕ) (parameter : Tree) →
+  pub under_way_next : (now new : ControlView) (after latest : Store) (place argument next : ℕ) (parameter : Tree) →
       IsUnderWay program view caller call parameters old now before after place argument →
       parts_from parameters place ≡ parameter ∷ parts_from parameters (place + 1) →
       BindsParameter program view caller call parameter argument next now new after latest →
@@ -131,7 +131,7 @@ module _ (program : TreeView) (view : View) (caller : Caller) (call parameters :
             ∙ way.bound;
         more = has_more_then old now new before after latest way.more binds.more;
         there = binds.there;
-        base = subst (λ (base : ℕ). base ≤ length new.names) (sym (ap (λ (held : Held). held.base) binds.more.held)) (omega (arith, way.base, binds.more.longer));
+        base = subst (λ (base : ℕ). base ≤ length new.names) (sym (ap (λ (held : ControlView). held.base) binds.more.held)) (omega (arith, way.base, binds.more.longer));
         scope = binds.scope ∙ way.scope;
         values = subst (λ (scope : Scope). HaveNoTrap scope call next) way.scope binds.values;
         names = omega (arith, way.names, ap length here, binds.names);
@@ -139,14 +139,14 @@ module _ (program : TreeView) (view : View) (caller : Caller) (call parameters :
       }
 
   -- no parameter is left
-  pub under_way_last : (now : Held) (after : Store) (place argument : ℕ) → IsUnderWay program view caller call parameters old now before after place argument → parts_from parameters place ≡ [] →
+  pub under_way_last : (now : ControlView) (after : Store) (place argument : ℕ) → IsUnderWay program view caller call parameters old now before after place argument → parts_from parameters place ≡ [] →
       bound_at program now after ≡ with_parameters program (bound_at program old before) (parts parameters) (values_in (arguments_from first_scope call 0))
   unfolding with_parameters
   under_way_last now after place argument way none =
       ap (λ (trees : List Tree). with_parameters program (bound_at program now after) trees (values_in (arguments_from first_scope call argument))) (sym none) ∙ way.bound
 
   -- the arguments that are left have no trap
-  pub values_left : (now : Held) (after : Store) (place argument : ℕ) → IsUnderWay program view caller call parameters old now before after place argument →
+  pub values_left : (now : ControlView) (after : Store) (place argument : ℕ) → IsUnderWay program view caller call parameters old now before after place argument →
       HaveNoTrap (caller_scope program view caller now after) call argument
   values_left now after place argument way = subst (λ (scope : Scope). HaveNoTrap scope call argument) (sym way.scope) way.values
 

@@ -13,7 +13,7 @@ use Rattle.c_model.specs.declared.point.WorkKind.{WorkKind}
 use Rattle.c_model.specs.Clauses.{construct_statement}
 use Rattle.c_model.specs.Copies.{makes_cells}
 use Rattle.c_model.specs.declared.view.View.{View}
-use Rattle.c_model.specs.Going.{barrier_items, items_after, mutex_items, names_after, next_stage, passed_at, settled_after_event, work_items}
+use Rattle.c_model.specs.AfterEvents.{barrier_items, items_after, mutex_items, names_after, next_stage, passed_at, settled_after_event, work_items}
 use Rattle.c_model.specs.Occurring.{IsOfItem, IsOfNext}
 use Rattle.c_model.specs.Step.{settled_task}
 use Rattle.c_model.specs.Width.{IsWithin}
@@ -22,16 +22,16 @@ use Rattle.c_model.specs.Task.{Item as SeenItem, Task}
 use Rattle.c_model.specs.Task.{Item as seen}
 use Rattle.c_steps.specs.declared.item.Item.{Item}
 use Rattle.c_steps.specs.declared.item.Item.TheVariants as item
-use Rattle.c_steps.specs.Held.{Held, env_at, task_at}
+use Rattle.c_steps.specs.ControlView.{ControlView, env_at, task_at}
 use Rattle.c_steps.specs.Items.{begun, calls_at, file_names, item_at, items_if, todo_at, with_file}
 use Rattle.c_steps.specs.Moves.{asking, bound, cut, passing, then_if, then_item}
 use Rattle.c_steps.specs.Nodes.{part_at}
-use Rattle.c_steps.specs.Passing.{IsEventOf, IsEventOfNext, names_behind_asking, names_behind_work, replaced, stages_at}
+use Rattle.c_steps.specs.Passing.{IsEventOf, IsEventOfNext, IsPassed, names_behind_asking, names_behind_work, replaced, stages_at}
 use Rattle.c_steps.specs.Ready.{IsFront, IsPassing}
 use Rattle.c_steps.proofs.Frames.{cut_names, take_shorter}
 use Rattle.c_steps.proofs.Giving.{found_stands, none_stands, same_task, settled_same}
 
-module _ (program : TreeView) (old : Held) (ready : IsPassing program old) where
+module _ (program : TreeView) (old : ControlView) (ready : IsPassing program old) where
   -- the task with other calls is the same where the calls are
   with_calls : (items : List SeenItem) → record (replaced program items old) { calls = calls_at program (take old.base old.names) (begun old.frames) } ≡ replaced program items old
   with_calls items = ap (λ others. record (replaced program items old) { calls = others }) (ready.calls (take old.base old.names))
@@ -170,7 +170,7 @@ unfolding IsEventOfNext IsOfNext
 next_event program point node [] is = is
 next_event program point node (it ∷ items) is = is.of_item
 
-module _ (program : TreeView) (view : View) (old settled : Held) (first : view.index ≡ 0) (so : task_at program settled ≡ settled_task view (task_at program old)) (point : Point) (node : ℕ) (event : IsEventOfNext program point node (todo_at program old.frames)) where
+module _ (program : TreeView) (view : View) (old settled : ControlView) (first : view.index ≡ 0) (so : task_at program settled ≡ settled_task view (task_at program old)) (point : Point) (node : ℕ) (event : IsEventOfNext program point node (todo_at program old.frames)) where
   pub event_none : todo_at program settled.frames ≡ [] → ⊥
   unfolding IsEventOfNext
   event_none none = subst (IsEventOfNext program point node) (none_stands program view old settled first so none) event
@@ -179,7 +179,7 @@ module _ (program : TreeView) (view : View) (old settled : Held) (first : view.i
   unfolding IsEventOfNext
   event_found found front = subst (IsEventOfNext program point node) (found_stands program view old settled first so found front) event
 
-  module _ (executes : Bool) (found : Item) (new : Held) (front : IsFront program settled.frames found) (task : task_at program new ≡ record (replaced program (items_after point executes (length (env_at program settled)) (item_at program found)) settled) { env = names_after point (item_at program found) (env_at program settled) }) where
+  module _ (executes : Bool) (found : Item) (new : ControlView) (front : IsFront program settled.frames found) (task : task_at program new ≡ record (replaced program (items_after point executes (length (env_at program settled)) (item_at program found)) settled) { env = names_after point (item_at program found) (env_at program settled) }) where
     pub went_past : task_at program new ≡ settled_after_event point executes (task_at program old)
     went_past =
         task
@@ -193,15 +193,16 @@ module _ (program : TreeView) (view : View) (old settled : Held) (first : view.i
         subst (IsWithin program) (ap (λ (task : Task). settled_after_event point executes task) same ∙ sym went_past) (event_is_within program view point executes (task_at program old) is next)
 
 -- what is put in place of the item is what the event says
-past_at : (program : TreeView) (point : Point) (executes : Bool) (node : ℕ) (it : SeenItem) (old new : Held) (env : List Entry) → IsEventOf program point node it → task_at program new ≡ record (replaced program (after_at point executes (length (env_at program old)) (tree_at program.trees node)) old) { env = env } → env ≡ names_after point it (env_at program old) →
-    task_at program new ≡ record (replaced program (items_after point executes (length (env_at program old)) it) old) { env = names_after point it (env_at program old) }
-past_at program point executes node it old new env is task names =
-    task
-    ∙ ap (λ env. record (replaced program (after_at point executes (length (env_at program old)) (tree_at program.trees node)) old) { env = env }) names
-    ∙ ap (λ (items : List SeenItem). record (replaced program items old) { env = names_after point it (env_at program old) }) (same_items program point executes (length (env_at program old)) node it is)
+past_at : (program : TreeView) (point : Point) (executes : Bool) (node : ℕ) (it : SeenItem) (old new : ControlView) (env : List Entry) → IsEventOf program point node it →
+    IsPassed program old new (after_at point executes (length (env_at program old)) (tree_at program.trees node)) env → env ≡ names_after point it (env_at program old) →
+    IsPassed program old new (items_after point executes (length (env_at program old)) it) (names_after point it (env_at program old))
+past_at program point executes node it old new env is passed names =
+    subst (λ (items : List SeenItem). IsPassed program old new items (names_after point it (env_at program old))) (same_items program point executes (length (env_at program old)) node it is)
+    (subst (IsPassed program old new (after_at point executes (length (env_at program old)) (tree_at program.trees node))) names passed)
 
-pub past_task : (program : TreeView) (point shape : Point) (executes : Bool) (node : ℕ) (it : SeenItem) (old new : Held) (env : List Entry) → point ≡ shape → IsEventOf program point node it → task_at program new ≡ record (replaced program (after_at shape executes (length (env_at program old)) (tree_at program.trees node)) old) { env = env } → env ≡ names_after shape it (env_at program old) →
-    task_at program new ≡ record (replaced program (items_after point executes (length (env_at program old)) it) old) { env = names_after point it (env_at program old) }
-past_task program point shape executes node it old new env same is task names =
-    subst (λ (at : Point). task_at program new ≡ record (replaced program (items_after at executes (length (env_at program old)) it) old) { env = names_after at it (env_at program old) }) (sym same)
-    (past_at program shape executes node it old new env (subst (λ (at : Point). IsEventOf program at node it) same is) task names)
+pub past_task : (program : TreeView) (point shape : Point) (executes : Bool) (node : ℕ) (it : SeenItem) (old new : ControlView) (env : List Entry) → point ≡ shape → IsEventOf program point node it →
+    IsPassed program old new (after_at shape executes (length (env_at program old)) (tree_at program.trees node)) env → env ≡ names_after shape it (env_at program old) →
+    IsPassed program old new (items_after point executes (length (env_at program old)) it) (names_after point it (env_at program old))
+past_task program point shape executes node it old new env same is passed names =
+    subst (λ (at : Point). IsPassed program old new (items_after at executes (length (env_at program old)) it) (names_after at it (env_at program old))) (sym same)
+    (past_at program shape executes node it old new env (subst (λ (at : Point). IsEventOf program at node it) same is) passed names)

@@ -4,11 +4,11 @@ use Rattle.c_syntax.specs.language.Numbered.{TreeView}
 use Rattle.c_model.specs.declared.view.View.{View}
 use Rattle.c_model.specs.Task.{Store}
 use Rattle.c_model.specs.Task.Outcome.{StepsTo}
-use Rattle.c_steps.specs.Held.{Held}
+use Rattle.c_steps.specs.ControlView.{ControlView}
 use Rattle.c_steps.specs.Trying.{HaveStepsMade, IsStepMade, IsTried, IsUntouched}
 
 -- nothing was done, twice
-untouched_twice : (program : TreeView) (old new last : Held) (before after end : Store) → IsUntouched program old before new after → IsUntouched program new after last end → IsUntouched program old before last end
+untouched_twice : (program : TreeView) (old new last : ControlView) (before after end : Store) → IsUntouched program old before new after → IsUntouched program new after last end → IsUntouched program old before last end
 untouched_twice program old new last before after end first then = record {
   task = then.task ∙ first.task;
   store = then.store ∙ first.store;
@@ -19,7 +19,7 @@ untouched_twice program old new last before after end first then = record {
 }
 
 -- a step was made, and then nothing was done
-made_untouched : (program : TreeView) (view : View) (old new last : Held) (before after end : Store) → IsStepMade program view old before new after → IsUntouched program new after last end → IsStepMade program view old before last end
+made_untouched : (program : TreeView) (view : View) (old new last : ControlView) (before after end : Store) → IsStepMade program view old before new after → IsUntouched program new after last end → IsStepMade program view old before last end
 made_untouched program view old new last before after end step then = record {
   step = step.step ∙ ap StepsTo (rw (then.task, then.store) refl);
   kept = record {
@@ -32,17 +32,17 @@ made_untouched program view old new last before after end step then = record {
 }
 
 -- at first none was made
-pub none_made : (program : TreeView) (view : View) (old : Held) (before : Store) → HaveStepsMade program view 0 old before old before
+pub none_made : (program : TreeView) (view : View) (old : ControlView) (before : Store) → HaveStepsMade program view 0 old before old before
 none_made program view old before = record { task = refl; store = refl; spare = refl; passes = refl; step_names = refl; room = refl }
 
 -- so many were made, and then nothing was done
-pub made_then_not : (program : TreeView) (view : View) (count : ℕ) (old new last : Held) (before after end : Store) → HaveStepsMade program view count old before new after → IsTried program view false new after last end → HaveStepsMade program view count old before last end
+pub made_then_not : (program : TreeView) (view : View) (count : ℕ) (old new last : ControlView) (before after end : Store) → HaveStepsMade program view count old before new after → IsTried program view false new after last end → HaveStepsMade program view count old before last end
 made_then_not program view zero old new last before after end steps then = untouched_twice program old new last before after end steps then
 made_then_not program view (suc count) old new last before after end steps then =
     (steps.0, steps.1, steps.2, made_untouched program view steps.0 new last steps.1 after end steps.3 then)
 
 -- one more was made
-pub made_one_more : (program : TreeView) (view : View) (count : ℕ) (old new last : Held) (before after end : Store) → HaveStepsMade program view count old before new after → IsTried program view true new after last end → HaveStepsMade program view (count + 1) old before last end
+pub made_one_more : (program : TreeView) (view : View) (count : ℕ) (old new last : ControlView) (before after end : Store) → HaveStepsMade program view count old before new after → IsTried program view true new after last end → HaveStepsMade program view (count + 1) old before last end
 made_one_more program view count old new last before after end steps then =
     let more : count + 1 ≡ suc count = omega arith in
     subst (λ (count : ℕ). HaveStepsMade program view count old before last end) (sym more) (new, after, steps, then)

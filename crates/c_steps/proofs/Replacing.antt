@@ -12,7 +12,7 @@ use Rattle.c_model.specs.Task.{Item as SeenItem, SharedLoop}
 use Rattle.c_model.specs.Task.Item.{EndWork, Iterations}
 use Rattle.c_steps.specs.declared.item.Item.{Item}
 use Rattle.c_steps.specs.declared.listed.ListedPlace.{ListedPlace}
-use Rattle.c_steps.specs.Held.{Held, task_at}
+use Rattle.c_steps.specs.ControlView.{ControlView, task_at}
 use Rattle.c_steps.specs.Items.{begun, calls_at, item_at, todo_at, with_file}
 use Rattle.c_steps.specs.ListedNames.{listed_from}
 use Rattle.c_steps.specs.Moves.{delivered, ending, stepping, then_item}
@@ -20,12 +20,12 @@ use Rattle.c_steps.specs.Passing.{replaced}
 use Rattle.c_steps.specs.Ready.{IsStepping}
 
 -- the task with other calls is the same where the calls are
-with_calls : (program : TreeView) (old : Held) (items : List SeenItem) → IsStepping program old →
+with_calls : (program : TreeView) (old : ControlView) (items : List SeenItem) → IsStepping program old →
     record (replaced program items old) { calls = calls_at program (take old.base old.names) (begun old.frames) } ≡ replaced program items old
 with_calls program old items ready =
     ap (λ others. record (replaced program items old) { calls = others }) (ready.calls (take old.base old.names))
 
-module _ (program : TreeView) (old : Held) (ready : IsStepping program old) where
+module _ (program : TreeView) (old : ControlView) (ready : IsStepping program old) where
   pub step_then : (it : Item) → task_at program (then_item it (stepping old)) ≡ replaced program (item_at program it ∷ []) old
   unfolding todo_at calls_at
   step_then it = with_calls program old (item_at program it ∷ []) ready

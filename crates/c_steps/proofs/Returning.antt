@@ -14,7 +14,7 @@ use Rattle.c_model.specs.Task.Outcome.{StepsTo}
 use Rattle.c_steps.specs.declared.frame.Frame.{Frame}
 use Rattle.c_steps.specs.declared.frame.Frame.TheVariants as frame
 use Rattle.c_steps.specs.declared.item.Item.TheVariants as item
-use Rattle.c_steps.specs.Held.{Held, env_at, here_at, moment_at}
+use Rattle.c_steps.specs.ControlView.{ControlView, env_at, here_at, moment_at}
 use Rattle.c_steps.specs.Items.{begun, calls_at, todo_at}
 use Rattle.c_steps.specs.Moves.{below_call, cells_given, closed, closed_to, delivered, given_back, last_call, stepping}
 use Rattle.c_steps.specs.Ready.{AreFrames, IsAfterStep, IsFrame, IsStepping}
@@ -29,9 +29,9 @@ are_below program (frame.Combining construct from names ∷ frames) are = are_be
 are_below program (frame.Combines operator name construct from names ∷ frames) are = are_below program frames (All-tail (IsFrame program) (frame.Combines operator name construct from names) frames are)
 are_below program (frame.Caller base to ∷ frames) are = All-tail (IsFrame program) (frame.Caller base to) frames are
 
-module _ (program : TreeView) (view : View) (held : Held) (store : Store) (number : ℤ) where
+module _ (program : TreeView) (view : View) (held : ControlView) (store : Store) (number : ℤ) where
   -- what is there when the call that was opened last has been closed, if it is this
-  abbrev after_call : Option (ℕ × Target) → Held
+  abbrev after_call : Option (ℕ × Target) → ControlView
   after_call last = record (given_back last number (closed_to last (stepping held))) { returned = Some number }
 
   abbrev after_cells : Option (ℕ × Target) → Store
@@ -69,15 +69,15 @@ module _ (program : TreeView) (view : View) (held : Held) (store : Store) (numbe
   frames_by (Some (base, target.Return)) are = All-cons (IsFrame program) (frame.One (item.Return number)) (below_call (begun held.frames)) tt (are_below program (begun held.frames) are)
 
   -- the control when the function has returned
-  pub returned_frames : (steps new : Held) → IsStepping program held → steps ≡ stepping held →
+  pub returned_frames : (steps new : ControlView) → IsStepping program held → steps ≡ stepping held →
       new ≡ record (given_back (last_call steps.frames) number (closed steps)) { returned = Some number } → AreFrames program new.frames
   returned_frames steps new ready is_step is =
       let all : new ≡ after_call (last_call (begun held.frames)) =
-      is ∙ ap (λ (it : Held). record (given_back (last_call it.frames) number (closed it)) { returned = Some number }) is_step in
-      subst (λ (it : Held). AreFrames program it.frames) (sym all) (frames_by (last_call (begun held.frames)) ready.are_begun)
+      is ∙ ap (λ (it : ControlView). record (given_back (last_call it.frames) number (closed it)) { returned = Some number }) is_step in
+      subst (λ (it : ControlView). AreFrames program it.frames) (sym all) (frames_by (last_call (begun held.frames)) ready.are_begun)
 
 -- an `omp_test_lock` ends
-module _ (program : TreeView) (view : View) (held : Held) (store : Store) where
+module _ (program : TreeView) (view : View) (held : ControlView) (store : Store) where
   pub test_ended : (to : Target) → IsStepping program held →
       StepsTo (moment_at program (delivered to (pos 1) (stepping held)) (record store { cells = value_cells to (pos 1) store.cells })) ≡ ends_test (here_at program view held store) to
   unfolding todo_at calls_at

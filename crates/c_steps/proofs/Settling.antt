@@ -4,11 +4,11 @@ use Rattle.std.proofs.lemmas.List.Elements.{All-cons, All-tail}
 use Rattle.c_syntax.specs.language.Numbered.{TreeView}
 use Rattle.c_model.specs.declared.entry.Entry.{Entry}
 use Rattle.c_model.specs.declared.view.View.{View}
-use Rattle.c_model.specs.Step.{is_passed_over, items_from_next, settled_task}
+use Rattle.c_model.specs.Step.{skips_masked, items_from_next, settled_task}
 use Rattle.c_model.specs.Task.{Item as SeenItem}
 use Rattle.c_steps.specs.declared.item.Item.{Item}
 use Rattle.c_steps.specs.declared.frame.Frame.{Frame}
-use Rattle.c_steps.specs.Held.{Held, task_at}
+use Rattle.c_steps.specs.ControlView.{ControlView, task_at}
 use Rattle.c_steps.specs.Items.{begun, calls_at, item_at, todo_at}
 use Rattle.c_steps.specs.Looking.{IsInPlaceOf, IsOver, ShowsItem, weights}
 use Rattle.c_steps.specs.Rooming.{open_calls}
@@ -26,11 +26,11 @@ top_frame [] it top = absurd (search rules)
 top_frame (first ∷ frames) it top = ap (λ frame. frame ∷ frames) (search rules)
 
 module _ (view : View) where
-  passes : (item : SeenItem) (items : List SeenItem) → is_passed_over item view ≡ true → items_from_next view (item ∷ items) ≡ items_from_next view items
+  passes : (item : SeenItem) (items : List SeenItem) → skips_masked item view ≡ true → items_from_next view (item ∷ items) ≡ items_from_next view items
   unfolding items_from_next
   passes item items past = rw past refl
 
-  stands : (item : SeenItem) (items : List SeenItem) → is_passed_over item view ≡ false → items_from_next view (item ∷ items) ≡ item ∷ items
+  stands : (item : SeenItem) (items : List SeenItem) → skips_masked item view ≡ false → items_from_next view (item ∷ items) ≡ item ∷ items
   unfolding items_from_next
   stands item items stays = rw stays refl
 
@@ -56,14 +56,14 @@ module _ (program : TreeView) (view : View) (old : List Frame) where
     calls = λ names. over.calls names frames ∙ so.calls names;
   }
 
-  pub settles_past : (frames : List Frame) (found : Item) → SettlesTo program view old frames → IsFront program frames found → is_passed_over (item_at program found) view ≡ true → SettlesTo program view old (begun frames)
+  pub settles_past : (frames : List Frame) (found : Item) → SettlesTo program view old frames → IsFront program frames found → skips_masked (item_at program found) view ≡ true → SettlesTo program view old (begun frames)
   settles_past frames found so front past = record {
     are_frames = front.are_begun;
     todo = sym (ap (items_from_next view) front.todo ∙ passes view (item_at program found) (todo_at program (begun frames)) past) ∙ so.todo;
     calls = λ names. front.calls names ∙ so.calls names;
   }
 
-  pub settled_front : (frames : List Frame) (found : Item) → SettlesTo program view old frames → IsFront program frames found → is_passed_over (item_at program found) view ≡ false → todo_at program frames ≡ items_from_next view (todo_at program old)
+  pub settled_front : (frames : List Frame) (found : Item) → SettlesTo program view old frames → IsFront program frames found → skips_masked (item_at program found) view ≡ false → todo_at program frames ≡ items_from_next view (todo_at program old)
   settled_front frames found so front stays =
       front.todo ∙ sym (ap (items_from_next view) front.todo ∙ stands view (item_at program found) (todo_at program (begun frames)) stays) ∙ so.todo
 
@@ -108,7 +108,7 @@ module _ (program : TreeView) (view : View) (old frames : List Frame) (it : Fram
   pub front_top : (found : Item) → ShowsItem program it found → IsFront program frames found
   front_top found shows = subst (λ at. IsFront program at found) (sym whole) (shows.front rest (All-tail (IsFrame program) it rest so_whole.are_frames))
 
-  pub past_top : (found : Item) → ShowsItem program it found → is_passed_over (item_at program found) view ≡ true → IsLookedThrough program view old frames (begun frames)
+  pub past_top : (found : Item) → ShowsItem program it found → skips_masked (item_at program found) view ≡ true → IsLookedThrough program view old frames (begun frames)
   past_top found shows past = subst (λ before. IsLookedThrough program view old before (begun before)) (sym whole) (
       let front = shows.front rest (All-tail (IsFrame program) it rest so_whole.are_frames) in
       record {
@@ -126,26 +126,26 @@ none_top program [] top = refl
 none_top program (first ∷ frames) top = absurd (search rules)
 
 -- the control after one look
-pub record IsMoved (program : TreeView) (view : View) (old before after : Held) : Type 0 where
+pub record IsMoved (program : TreeView) (view : View) (old before after : ControlView) : Type 0 where
   pub so : SettlesTo program view old.frames after.frames
   pub rest : after ≡ record old { frames = after.frames }
   pub less : weights program after.frames < weights program before.frames
 
-pub moved : (program : TreeView) (view : View) (old before after : Held) (frames : List Frame) → before ≡ record old { frames = before.frames } → after ≡ record before { frames = frames } → IsLookedThrough program view old.frames before.frames frames → IsMoved program view old before after
+pub moved : (program : TreeView) (view : View) (old before after : ControlView) (frames : List Frame) → before ≡ record old { frames = before.frames } → after ≡ record before { frames = frames } → IsLookedThrough program view old.frames before.frames frames → IsMoved program view old before after
 moved program view old before after frames rest is next = subst (IsMoved program view old before) (sym is) (record {
   so = next.so;
-  rest = ap (λ (held : Held). record held { frames = frames }) rest;
+  rest = ap (λ (held : ControlView). record held { frames = frames }) rest;
   less = next.less;
 })
 
 -- the task then
-settled_task_at : (program : TreeView) (view : View) (old new : Held) → new ≡ record old { frames = new.frames } → SettlesTo program view old.frames new.frames → todo_at program new.frames ≡ items_from_next view (todo_at program old.frames) → task_at program new ≡ settled_task view (task_at program old)
+settled_task_at : (program : TreeView) (view : View) (old new : ControlView) → new ≡ record old { frames = new.frames } → SettlesTo program view old.frames new.frames → todo_at program new.frames ≡ items_from_next view (todo_at program old.frames) → task_at program new ≡ settled_task view (task_at program old)
 settled_task_at program view old new rest so todo = rw (rest, todo, so.calls (take old.base old.names)) refl
 
-pub settled_at_front : (program : TreeView) (view : View) (old new : Held) (found : Item) → new ≡ record old { frames = new.frames } → SettlesTo program view old.frames new.frames → IsFront program new.frames found → is_passed_over (item_at program found) view ≡ false → task_at program new ≡ settled_task view (task_at program old)
+pub settled_at_front : (program : TreeView) (view : View) (old new : ControlView) (found : Item) → new ≡ record old { frames = new.frames } → SettlesTo program view old.frames new.frames → IsFront program new.frames found → skips_masked (item_at program found) view ≡ false → task_at program new ≡ settled_task view (task_at program old)
 settled_at_front program view old new found rest so front stays = settled_task_at program view old new rest so (settled_front program view old.frames new.frames found so front stays)
 
-pub settled_at_end : (program : TreeView) (view : View) (old new : Held) → new ≡ record old { frames = new.frames } → SettlesTo program view old.frames new.frames → todo_at program new.frames ≡ [] → task_at program new ≡ settled_task view (task_at program old)
+pub settled_at_end : (program : TreeView) (view : View) (old new : ControlView) → new ≡ record old { frames = new.frames } → SettlesTo program view old.frames new.frames → todo_at program new.frames ≡ [] → task_at program new ≡ settled_task view (task_at program old)
 settled_at_end program view old new rest so none = settled_task_at program view old new rest so (settled_none program view old.frames new.frames so none)
 
 pub ruleset settled_tops_cases = (over_top, instead_top, past_top, front_top, nothing_top, none_top, settled_at_front, settled_at_end, settles_none)

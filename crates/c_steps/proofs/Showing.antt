@@ -7,7 +7,7 @@ use Rattle.c_steps.specs.declared.item.Item.{Item}
 use Rattle.c_steps.specs.declared.frame.Frame.{Frame}
 use Rattle.c_steps.specs.declared.frame.Frame.TheVariants as frame
 use Rattle.c_steps.specs.declared.plain.Plain.{Plain}
-use Rattle.c_steps.specs.Held.{Held, task_at}
+use Rattle.c_steps.specs.ControlView.{ControlView, task_at}
 use Rattle.c_steps.specs.Items.{begun, calls_at, todo_at}
 use Rattle.c_steps.specs.Looking.{IsInPlaceOf, ShowsItem}
 use Rattle.c_steps.specs.Ready.{AreFrames, IsFrame, IsFront}
@@ -37,15 +37,15 @@ next_calls (frame.Combines operator name construct from names ∷ frames) = refl
 next_calls (frame.Caller base to ∷ frames) = refl
 
 -- the same task, by other frames
-pub record IsSameBy (program : TreeView) (old new : Held) : Type 0 where
+pub record IsSameBy (program : TreeView) (old new : ControlView) : Type 0 where
   pub frames : AreFrames program new.frames
   pub rest : new ≡ record old { frames = new.frames }
   pub task : task_at program new ≡ task_at program old
 
-same_task : (program : TreeView) (old : Held) (frames : List Frame) → todo_at program frames ≡ todo_at program old.frames → ((names : List Entry) → calls_at program names frames ≡ calls_at program names old.frames) → task_at program (record old { frames = frames }) ≡ task_at program old
+same_task : (program : TreeView) (old : ControlView) (frames : List Frame) → todo_at program frames ≡ todo_at program old.frames → ((names : List Entry) → calls_at program names frames ≡ calls_at program names old.frames) → task_at program (record old { frames = frames }) ≡ task_at program old
 same_task program old frames todo calls = rw (todo, calls (take old.base old.names)) refl
 
-module _ (program : TreeView) (old : Held) (it : Frame) (are : AreFrames program old.frames) (top : Some it ≡ slice_get old.frames 0) where
+module _ (program : TreeView) (old : ControlView) (it : Frame) (are : AreFrames program old.frames) (top : Some it ≡ slice_get old.frames 0) where
   abbrev rest : List Frame
   rest = drop 1 old.frames
 
@@ -87,27 +87,27 @@ module _ (program : TreeView) (old : Held) (it : Frame) (are : AreFrames program
         ∙ calls_counted program [] (it ∷ rest)
         ∙ ap open_calls (sym whole)
 
-    pub replaced : (new : Held) → new ≡ record old { frames = slice_set old.frames 0 other } → IsSameBy program old new
+    pub replaced : (new : ControlView) → new ≡ record old { frames = slice_set old.frames 0 other } → IsSameBy program old new
     replaced new is =
         subst (IsSameBy program old) (sym (is ∙ ap (λ (frames : List Frame). record old { frames = frames }) set_top)) placed
 
-  pub past : (new : Held) → IsInPlaceOf program it (next_part it) → new ≡ record old { frames = next_on_top old.frames } → IsSameBy program old new
+  pub past : (new : ControlView) → IsInPlaceOf program it (next_part it) → new ≡ record old { frames = next_on_top old.frames } → IsSameBy program old new
   past new same is =
       subst (IsSameBy program old) (sym (is ∙ ap (λ (frames : List Frame). record old { frames = next_on_top frames }) whole)) (placed (next_part it) same)
 
   -- the next part is on top then
-  pub next_top : (new : Held) → new ≡ record old { frames = next_on_top old.frames } → Some (next_part it) ≡ slice_get new.frames 0
+  pub next_top : (new : ControlView) → new ≡ record old { frames = next_on_top old.frames } → Some (next_part it) ≡ slice_get new.frames 0
   next_top new is =
-      sym (ap (λ (held : Held). slice_get held.frames 0) is ∙ ap (λ (frames : List Frame). slice_get (next_on_top frames) 0) whole)
+      sym (ap (λ (held : ControlView). slice_get held.frames 0) is ∙ ap (λ (frames : List Frame). slice_get (next_on_top frames) 0) whole)
 
   -- an item that is the frame of its own stands there
-  pub placed_front : (found : Item) → IsInPlaceOf program it (frame.One found) → (new : Held) → new ≡ record old { frames = slice_set old.frames 0 (frame.One found) } → IsFront program new.frames found
+  pub placed_front : (found : Item) → IsInPlaceOf program it (frame.One found) → (new : ControlView) → new ≡ record old { frames = slice_set old.frames 0 (frame.One found) } → IsFront program new.frames found
   placed_front found same new is =
-      subst (λ (frames : List Frame). IsFront program frames found) (sym (ap Held.frames is ∙ set_top (frame.One found) same))
+      subst (λ (frames : List Frame). IsFront program frames found) (sym (ap ControlView.frames is ∙ set_top (frame.One found) same))
       ((shows_one program found same.is_frame).front rest (All-tail (IsFrame program) it rest are_whole))
 
 -- an item that is a frame of its own stands next, if it is plain
-pub shown_one : (program : TreeView) (old : Held) (it : Item) (found : Option Plain) → AreFrames program old.frames → Some (frame.One it) ≡ slice_get old.frames 0 → IfSome found (λ (found : Plain). it ≡ item_of found) → IfSome found (λ (found : Plain). IsFront program old.frames (item_of found))
+pub shown_one : (program : TreeView) (old : ControlView) (it : Item) (found : Option Plain) → AreFrames program old.frames → Some (frame.One it) ≡ slice_get old.frames 0 → IfSome found (λ (found : Plain). it ≡ item_of found) → IfSome found (λ (found : Plain). IsFront program old.frames (item_of found))
 shown_one program old it None are top is = is
 shown_one program old it (Some found) are top is =
     subst (IsFront program old.frames) is (shown_top program old (frame.One it) are top it (shows_one program it (is_top program old (frame.One it) are top)))

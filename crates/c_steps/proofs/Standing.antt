@@ -4,7 +4,7 @@ use Rattle.std.proofs.lemmas.List.{reverse-append, reverse-reverse}
 use Rattle.std.proofs.lemmas.List.Elements.{All-cons, All-head, All-tail}
 use Rattle.c_syntax.specs.language.Numbered.{TreeView}
 use Rattle.c_model.specs.declared.view.View.{View}
-use Rattle.c_model.specs.Step.{is_passed_over, items_from_next}
+use Rattle.c_model.specs.Step.{skips_masked, items_from_next}
 use Rattle.c_model.specs.Task.{Item as SeenItem}
 use Rattle.c_steps.specs.declared.item.Item.{Item}
 use Rattle.c_steps.specs.declared.frame.Frame.{Frame}
@@ -12,7 +12,7 @@ use Rattle.c_steps.specs.declared.control.standing.Front.TheVariants as front
 use Rattle.c_steps.specs.Items.{begun, item_at, todo_at}
 use Rattle.c_steps.specs.Looking.{IsInPlaceOf, IsOver, ShowsItem, weight, weights}
 use Rattle.c_steps.specs.Ready.{AreFrames, IsFrame}
-use Rattle.c_steps.specs.Standing.{BeginsAs, Fronts}
+use Rattle.c_steps.specs.FrontFrame.{BeginsAs, Fronts}
 use Rattle.c_steps.proofs.Settling.{SettlesTo, settled_front, settled_none, settles_instead, settles_none, settles_over, settles_past}
 
 -- the first of items
@@ -41,7 +41,7 @@ module _ (program : TreeView) (view : View) (it : Frame) where
     nothing_front none frames are = sym (settled_none program view (it ∷ frames) (other ∷ frames) (so frames are) (none frames)) ∙ none frames
 
     module _ (found : Item) (shows : ShowsItem program other found) where
-      pub found_front : is_passed_over (item_at program found) view ≡ false → Fronts program view it (front.Found found)
+      pub found_front : skips_masked (item_at program found) view ≡ false → Fronts program view it (front.Found found)
       found_front stays = (
         (shows.front [] (search rules)).is_item,
         λ frames are.
@@ -50,11 +50,11 @@ module _ (program : TreeView) (view : View) (it : Frame) where
             (sym (settled_front program view (it ∷ frames) (other ∷ frames) found (so frames are) next stays) ∙ next.todo),
       )
 
-      pub past_front : is_passed_over (item_at program found) view ≡ true → BeginsAs other None → Fronts program view it front.Over
+      pub past_front : skips_masked (item_at program found) view ≡ true → BeginsAs other None → Fronts program view it front.Over
       past_front past begins frames are =
           sym (subst (SettlesTo program view (it ∷ frames)) (begins frames) (settles_past program view (it ∷ frames) (other ∷ frames) found (so frames are) (shows.front frames are) past)).todo
 
-      pub follows_past : (next : Frame) → is_passed_over (item_at program found) view ≡ true → BeginsAs other (Some next) → Follows program view it next
+      pub follows_past : (next : Frame) → skips_masked (item_at program found) view ≡ true → BeginsAs other (Some next) → Follows program view it next
       follows_past next past begins frames are =
           subst (SettlesTo program view (it ∷ frames)) (begins frames) (settles_past program view (it ∷ frames) (other ∷ frames) found (so frames are) (shows.front frames are) past)
 

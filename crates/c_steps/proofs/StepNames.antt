@@ -7,7 +7,7 @@ use Rattle.c_syntax.specs.language.Numbered.{TreeView, tree_at}
 use Rattle.c_model.specs.declared.entry.Entry.{Entry}
 use Rattle.c_model.specs.declared.limits.TheConstants.{CALL_LIMIT}
 use Rattle.c_model.specs.Parts.{parts, trees_in}
-use Rattle.c_steps.specs.Held.{Held}
+use Rattle.c_steps.specs.ControlView.{ControlView}
 use Rattle.c_steps.specs.Items.{begun}
 use Rattle.c_steps.specs.Moves.{bound_if, entries_if}
 use Rattle.c_steps.specs.Nodes.{IsPart, part_at}
@@ -17,7 +17,7 @@ use Rattle.c_steps.specs.Widths.{most_of_steps, names_of_step, step_names}
 use Rattle.c_steps.proofs.Frames.{calls_counted}
 
 -- no name more is in scope
-pub no_name_more : (held : Held) → held ≡ bound_if None held
+pub no_name_more : (held : ControlView) → held ≡ bound_if None held
 no_name_more held =
     let count : held.names_now ≡ held.names_now - 0 = omega arith in
     ap (λ (names : List Entry). record held { names = names }) (sym (append-nil held.names))
@@ -45,7 +45,7 @@ pub room_for_parts : (program : TreeView) (part : Option ℕ) (declared : Option
 room_for_parts program part declared now is there = omega (arith, is, parts_within program part there, few_entries declared)
 
 -- no fewer calls may be opened when the item that stands next has begun
-pub few_open : (program : TreeView) (held : Held) → IsStepping program held → open_calls held.frames < CALL_LIMIT → open_calls (begun held.frames) < CALL_LIMIT
+pub few_open : (program : TreeView) (held : ControlView) → IsStepping program held → open_calls held.frames < CALL_LIMIT → open_calls (begun held.frames) < CALL_LIMIT
 few_open program held ready few =
     let same : open_calls (begun held.frames) ≡ open_calls held.frames =
     sym (calls_counted program [] (begun held.frames)) ∙ ap length (ready.calls []) ∙ calls_counted program [] held.frames in

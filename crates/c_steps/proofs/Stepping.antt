@@ -5,7 +5,7 @@ use Rattle.c_syntax.specs.language.Numbered.{TreeView}
 use Rattle.c_model.specs.declared.entry.Entry.{Entry}
 use Rattle.c_model.specs.declared.view.View.{View}
 use Rattle.c_model.specs.Cells.{has_too_many, new_entry, with_cells}
-use Rattle.c_model.specs.Coming.{binds, bound_of}
+use Rattle.c_model.specs.StepOutcomes.{binds, bound_of}
 use Rattle.c_model.specs.Task.{Store}
 use Rattle.c_model.specs.Task.Outcome.{StepsTo}
 use Rattle.c_steps.specs.declared.item.Item.{Item}
@@ -14,7 +14,7 @@ use Rattle.c_steps.specs.declared.frame.Frame.TheVariants as frame
 use Rattle.c_steps.specs.Items.{begun, calls_at, file_names, items_if, todo_at}
 use Rattle.c_steps.specs.Moves.{bound, frames_if, stepping, then_if}
 use Rattle.c_steps.specs.Ready.{AreFrames, IsFrame, IsItem, IsStepping}
-use Rattle.c_steps.specs.Held.{Held, here_at, moment_at}
+use Rattle.c_steps.specs.ControlView.{ControlView, here_at, moment_at}
 use Rattle.c_steps.proofs.Frames.{bound_env, bound_names}
 
 module _ (program : TreeView) where
@@ -33,7 +33,7 @@ module _ (program : TreeView) where
   are_if (Some it) frames is are = All-cons (IsFrame program) (frame.One it) frames is are
 
   -- a step that brings a name with one cell
-  pub bound_step : (view : View) (old new : Held) (before after : Store) (then : Option Item) (entry : Entry) (name slot : ℕ) (number : ℤ) → IsStepping program old → old.base ≤ length old.names → has_too_many (before.cells ++ number ∷ []) ≡ false → entry ≡ new_entry before.cells name slot (number ∷ []) → new ≡ then_if then (bound entry (stepping old)) → after ≡ record before { cells = before.cells ++ number ∷ [] } → StepsTo (moment_at program new after) ≡ binds (here_at program view old before) (with_cells (bound_of (here_at program view old before)) name slot (number ∷ [])) (items_if program then)
+  pub bound_step : (view : View) (old new : ControlView) (before after : Store) (then : Option Item) (entry : Entry) (name slot : ℕ) (number : ℤ) → IsStepping program old → old.base ≤ length old.names → has_too_many (before.cells ++ number ∷ []) ≡ false → entry ≡ new_entry before.cells name slot (number ∷ []) → new ≡ then_if then (bound entry (stepping old)) → after ≡ record before { cells = before.cells ++ number ∷ [] } → StepsTo (moment_at program new after) ≡ binds (here_at program view old before) (with_cells (bound_of (here_at program view old before)) name slot (number ∷ [])) (items_if program then)
   bound_step view old new before after then entry name slot number ready within room is_entry is_new is_after =
       rw (is_new, is_after, room, todo_if then (begun old.frames), calls_if (take old.base (old.names ++ entry ∷ [])) then (begun old.frames), bound_env old.base (file_names program) old.names entry within, bound_names old.base old.names entry within, ready.calls (take old.base old.names), is_entry) refl
 

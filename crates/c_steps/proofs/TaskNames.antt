@@ -9,7 +9,7 @@ use Rattle.c_model.specs.Cells.{Bound}
 use Rattle.c_model.specs.Clauses.{Listed}
 use Rattle.c_model.specs.Copies.{listed_variables, with_listed, with_slots, with_task_cells}
 use Rattle.c_model.specs.Task.{Store}
-use Rattle.c_steps.specs.Held.{Held, bound_in}
+use Rattle.c_steps.specs.ControlView.{ControlView, bound_in}
 use Rattle.c_steps.specs.OwnCells.{around_at, listed_copy, made_listed, made_slots, made_task, slot_copy, with_made, with_made_cells}
 use Rattle.c_steps.proofs.OwnNames.{around_listed, cells_before, cells_grow, copies_append, copies_listed, copies_of_slots, listed_appends, listed_count, made_both}
 
@@ -38,11 +38,11 @@ task_appends program around construct =
     ∙ ap (λ env. record { env = env; cells = (made_slots around made.cells slots).cells }) (append_assoc around.env made.env (made_slots around made.cells slots).env)
     ∙ sym (ap (λ all. record { env = around.env ++ all.env; cells = all.cells }) (slots_append around made slots))
 
-module _ (program : TreeView) (construct : Tree) (old : Held) (before : Store) (room : length (made_task program (bound_in program old before) before.cells construct).cells ≤ CELL_LIMIT) where
+module _ (program : TreeView) (construct : Tree) (old : ControlView) (before : Store) (room : length (made_task program (bound_in program old before) before.cells construct).cells ≤ CELL_LIMIT) where
   pub listed_fit : length (made_listed (bound_in program old before) before.cells (listed_variables construct)).cells ≤ CELL_LIMIT
   listed_fit = omega (arith, room, slots_grow (bound_in program old before) (made_listed (bound_in program old before) before.cells (listed_variables construct)) (task_copies program construct))
 
-  module _ (held : Held) (store : Store) (names count : ℕ) (slots : List ℕ) (base : old.base ≤ length old.names)
+  module _ (held : ControlView) (store : Store) (names count : ℕ) (slots : List ℕ) (base : old.base ≤ length old.names)
       (control : held ≡ with_made (made_listed (bound_in program old before) before.cells (listed_variables construct)) old)
       (cells : store ≡ with_made_cells (made_listed (bound_in program old before) before.cells (listed_variables construct)) before)
       (were : names ≡ length old.names) (counted : count ≡ length before.cells) (are : slots ≡ task_copies program construct) where
@@ -52,7 +52,7 @@ module _ (program : TreeView) (construct : Tree) (old : Held) (before : Store) (
 
     pub slots_free : length (listed_variables construct) + length (task_copies program construct) ≤ old.names_now → length slots ≤ held.names_now
     slots_free free =
-        omega (arith, free, ap Held.names_now control, ap length are, listed_count (bound_in program old before) before.cells (listed_variables construct))
+        omega (arith, free, ap ControlView.names_now control, ap length are, listed_count (bound_in program old before) before.cells (listed_variables construct))
 
     seen : around_at program held names store count ≡ bound_in program old before
     seen =
@@ -82,7 +82,7 @@ module _ (program : TreeView) (construct : Tree) (old : Held) (before : Store) (
     pub slots_fit : length (made_slots (around_at program held names store count) store.cells slots).cells ≤ CELL_LIMIT
     slots_fit = subst (λ all. length all.cells ≤ CELL_LIMIT) whole room
 
-    pub task_control : (new : Held) → new ≡ with_made (made_slots (around_at program held names store count) store.cells slots) held → new ≡ with_made (made_task program (bound_in program old before) before.cells construct) old
+    pub task_control : (new : ControlView) → new ≡ with_made (made_slots (around_at program held names store count) store.cells slots) held → new ≡ with_made (made_task program (bound_in program old before) before.cells construct) old
     task_control new is =
         let made = made_listed (bound_in program old before) before.cells (listed_variables construct) in
         let more = made_slots (around_at program held names store count) store.cells slots in

@@ -7,8 +7,8 @@ use Rattle.c_syntax.specs.language.Numbered.{TreeView}
 use Rattle.c_model.specs.declared.upcoming.Upcoming.TheVariants as upcoming
 use Rattle.c_model.specs.declared.view.View.{View}
 use Rattle.c_model.proofs.Fitting.{Fits}
-use Rattle.c_model.specs.Step.{is_event, is_event_statement, is_masked, is_passed_over, settled_task, silent, step_of}
-use Rattle.c_model.specs.Task.{Here, Item as SeenItem, Moment, Outcome, Store, Task}
+use Rattle.c_model.specs.Step.{is_event, is_event_statement, is_masked, skips_masked, settled_task, silent, step_of}
+use Rattle.c_model.specs.Task.{StepStart, Item as SeenItem, Moment, Outcome, Store, Task}
 use Rattle.c_model.specs.Task.Item.{Start}
 use Rattle.c_model.specs.Task.Outcome.{StepsTo}
 use Rattle.c_model.specs.Upcoming.{upcoming_among, upcoming_item}
@@ -17,9 +17,9 @@ use Rattle.c_model.proofs.Standing.{fits-item}
 use Rattle.c_steps.specs.declared.next.Next.TheVariants as next
 use Rattle.c_steps.specs.declared.plain.Plain.{Plain}
 use Rattle.c_steps.specs.declared.plain.Plain.TheVariants as plain
-use Rattle.c_steps.specs.Held.{Held, here_at, moment_at, task_at}
+use Rattle.c_steps.specs.ControlView.{ControlView, here_at, moment_at, task_at}
 use Rattle.c_steps.specs.Items.{item_at}
-use Rattle.c_steps.specs.Made.{IsMadeFor}
+use Rattle.c_steps.specs.OfProgram.{IsMadeFor}
 use Rattle.c_steps.specs.Ready.{AreFrames, IsFront}
 use Rattle.c_steps.specs.Trying.{ComesTo, IsAttempt, IsTried, item_of}
 use Rattle.c_steps.proofs.Advancing.{made_after, silent_front}
@@ -31,7 +31,7 @@ unfolding Fits
 step_fits now true fits = absurd fits
 step_fits now false fits = refl
 
-no_event : (it : SeenItem) (here : Here) (now : Moment) → step_of it here ≡ StepsTo now → is_event it ≡ false
+no_event : (it : SeenItem) (here : StepStart) (now : Moment) → step_of it here ≡ StepsTo now → is_event it ≡ false
 no_event it here now step = step_fits now (is_event it) (subst (λ (outcome : Outcome). Fits outcome (is_event it)) step (fits-item it here))
 
 -- .. so the task doesn't go past it
@@ -39,7 +39,7 @@ no_masked : (kind : NodeKind) (tree : Tree) → is_event_statement kind tree ≡
 no_masked (node.Construct which) tree none = absurd (search rules)
 no_masked other tree none = refl
 
-stays : (it : SeenItem) (view : View) → is_event it ≡ false → is_passed_over it view ≡ false
+stays : (it : SeenItem) (view : View) → is_event it ≡ false → skips_masked it view ≡ false
 stays (Start tree) view none = ap (λ (masked : Bool). masked && not (view.index == 0)) (no_masked (kind_of tree) tree none)
 stays other view none = refl
 
@@ -54,22 +54,22 @@ next_is_step program (plain.Return number) none = refl
 next_is_step program plain.FallOff none = refl
 
 -- the control where what stands next stands first
-module _ (program : TreeView) (old shown : Held) (rest : shown ≡ record old { frames = shown.frames }) (same : task_at program shown ≡ task_at program old) where
+module _ (program : TreeView) (old shown : ControlView) (rest : shown ≡ record old { frames = shown.frames }) (same : task_at program shown ≡ task_at program old) where
   pub untouched : (view : View) (before : Store) → IsTried program view false old before shown before
   untouched view before = record {
     task = same;
     store = refl;
-    spare = ap Held.spare rest;
-    passes = ap Held.passes rest;
-    step_names = ap Held.step_names rest;
-    room = ap Held.room rest;
+    spare = ap ControlView.spare rest;
+    passes = ap ControlView.passes rest;
+    step_names = ap ControlView.step_names rest;
+    room = ap ControlView.room rest;
   }
 
   pub made_shown : IsMadeFor program old → AreFrames program shown.frames → IsMadeFor program shown
   made_shown made frames = record {
     are_frames = frames;
-    brings = ap Held.step_names rest ∙ made.brings;
-    fits = omega (arith, made.fits, ap Held.room rest);
+    brings = ap ControlView.step_names rest ∙ made.brings;
+    fits = omega (arith, made.fits, ap ControlView.room rest);
     is_within = subst (IsWithin program) (sym same) made.is_within;
   }
 
@@ -85,7 +85,7 @@ module _ (program : TreeView) (old shown : Held) (rest : shown ≡ record old { 
         settled_at_front program view shown shown (item_of it) refl (settles_none program view shown.frames are) front (stays seen view none)
         ∙ ap (settled_task view) same
 
-    module _ (new : Held) (after : Store) (step : ComesTo program outcome shown new after) where
+    module _ (new : ControlView) (after : Store) (step : ComesTo program outcome shown new after) where
       none : is_event seen ≡ false
       none = no_event seen (here_at program view shown before) (moment_at program new after) step.step
 
@@ -96,10 +96,10 @@ module _ (program : TreeView) (old shown : Held) (rest : shown ≡ record old { 
       step_made = record {
         step = silent_step;
         kept = record {
-          spare = step.kept.spare ∙ ap Held.spare rest;
-          passes = step.kept.passes ∙ ap Held.passes rest;
-          step_names = step.kept.step_names ∙ ap Held.step_names rest;
-          room = step.kept.room ∙ ap Held.room rest;
+          spare = step.kept.spare ∙ ap ControlView.spare rest;
+          passes = step.kept.passes ∙ ap ControlView.passes rest;
+          step_names = step.kept.step_names ∙ ap ControlView.step_names rest;
+          room = step.kept.room ∙ ap ControlView.room rest;
         };
         upcoming = ap upcoming_among (sym (ap Task.todo (settled_shown none)) ∙ front.todo) ∙ next_is_step program it none;
       }
@@ -109,11 +109,11 @@ module _ (program : TreeView) (old shown : Held) (rest : shown ≡ record old { 
           made_after program view old shown before (settled_shown none) new after next.Quiet made rest are step.frames step.kept (sym silent_step)
 
     -- it was made, or not
-    pub tried : (result : Bool) (new : Held) (after : Store) → IsAttempt program outcome result shown before new after → IsTried program view result old before new after
+    pub tried : (result : Bool) (new : ControlView) (after : Store) → IsAttempt program result shown before new after outcome → IsTried program view result old before new after
     tried true new after step = step_made new after step
-    tried false new after same = subst (λ (new : Held). IsTried program view false old before new after) (sym same.0)
+    tried false new after same = subst (λ (new : ControlView). IsTried program view false old before new after) (sym same.0)
         (subst (λ (after : Store). IsTried program view false old before shown after) (sym same.1) (untouched view before))
 
-    pub made_tried : (result : Bool) (new : Held) (after : Store) → IsMadeFor program old → IsAttempt program outcome result shown before new after → IsMadeFor program new
+    pub made_tried : (result : Bool) (new : ControlView) (after : Store) → IsMadeFor program old → IsAttempt program result shown before new after outcome → IsMadeFor program new
     made_tried true new after made step = made_new new after step made
     made_tried false new after made same = subst (IsMadeFor program) (sym same.0) (made_shown made are)

@@ -10,7 +10,7 @@ use Rattle.c_model.specs.Clauses.{construct_statement}
 use Rattle.c_model.specs.Copies.{combines, makes_cells}
 use Rattle.c_model.specs.Task.{Item}
 use Rattle.c_model.specs.Task.Item.{Forked, Inside, Start}
-use Rattle.c_steps.specs.Held.{Held}
+use Rattle.c_steps.specs.ControlView.{ControlView}
 use Rattle.c_steps.specs.Items.{calls_at, todo_at}
 use Rattle.c_steps.specs.Ready.{AreFrames}
 
@@ -33,7 +33,7 @@ member_by true construct names = Inside construct ∷ []
 member_by false construct names = region_items construct names
 
 -- these items stand next, before what stood there
-pub record IsPutBefore (program : TreeView) (items : List Item) (old new : Held) : Type 0 where
+pub record IsPutBefore (program : TreeView) (items : List Item) (old new : ControlView) : Type 0 where
   pub rest : new ≡ record old { frames = new.frames; frames_now = new.frames_now }
   pub todo : todo_at program new.frames ≡ items ++ todo_at program old.frames
   pub calls : (names : List Entry) → calls_at program names new.frames ≡ calls_at program names old.frames

@@ -7,14 +7,14 @@ use Rattle.c_model.specs.Calls.{behind_first, first_or_zero}
 use Rattle.c_check.specs.Seen.{slot_of_name}
 use Rattle.c_model.specs.Cells.{Bound, with_cells}
 use Rattle.c_model.specs.Program.{body_of}
-use Rattle.c_model.specs.Task.{Here, Moment, OpenCall, Store}
+use Rattle.c_model.specs.Task.{StepStart, Moment, OpenCall, Store}
 use Rattle.c_model.specs.Task.Item.{FallOff, Start}
 use Rattle.c_model.specs.Value.{Scope, all_values}
-use Rattle.c_steps.specs.declared.scope.Argument.{Argument}
+use Rattle.c_steps.specs.declared.evaluate.Argument.{Argument}
 use Rattle.c_steps.specs.declared.control.entering.Caller.{Caller}
 use Rattle.c_steps.specs.Arguments.{values_in, without_values}
 use Rattle.c_steps.specs.Rests.{parts_from}
-use Rattle.c_steps.specs.Held.{Held, env_at}
+use Rattle.c_steps.specs.ControlView.{ControlView, env_at}
 use Rattle.c_steps.specs.Items.{file_names}
 
 -- the arguments of a call from a place on, or their first trap
@@ -32,7 +32,7 @@ pub record IsNextArgument (scope : Scope) (call : Tree) (place : ℕ) (found : A
   pub are : HaveNoTrap scope call found.next
 
 -- what the arguments of a call are evaluated in, when names and cells may have been made since it began
-abbrev pub caller_scope : TreeView → View → Caller → Held → Store → Scope
+abbrev pub caller_scope : TreeView → View → Caller → ControlView → Store → Scope
 caller_scope program view caller held store =
     record {
       env = file_names program ++ drop caller.base (take caller.names held.names);
@@ -41,24 +41,24 @@ caller_scope program view caller held store =
     }
 
 -- names and cells that there were when the call began
-pub record IsCaller (caller : Caller) (held : Held) (store : Store) : Type 0 where
+pub record IsCaller (caller : Caller) (held : ControlView) (store : Store) : Type 0 where
   pub base : caller.base ≤ caller.names
   pub names : caller.names ≤ length held.names
   pub cells : caller.cells ≤ length store.cells
 
 -- the names in scope, with all cells
-abbrev pub bound_at : TreeView → Held → Store → Bound
+abbrev pub bound_at : TreeView → ControlView → Store → Bound
 bound_at program held store = record { env = env_at program held; cells = store.cells }
 
 -- more names and cells are there for a call, and nothing else has changed
-pub record HasMore (old new : Held) (before after : Store) : Type 0 where
+pub record HasMore (old new : ControlView) (before after : Store) : Type 0 where
   pub held : new ≡ record old { names = new.names; names_now = new.names_now }
   pub store : after ≡ record before { cells = after.cells }
   pub older : take old.base new.names ≡ take old.base old.names
   pub longer : length old.names ≤ length new.names
 
 -- a parameter has come into scope, with the argument at a place, and the next argument is there
-pub record BindsParameter (program : TreeView) (view : View) (caller : Caller) (call parameter : Tree) (place next : ℕ) (old new : Held) (before after : Store) : Type 0 where
+pub record BindsParameter (program : TreeView) (view : View) (caller : Caller) (call parameter : Tree) (place next : ℕ) (old new : ControlView) (before after : Store) : Type 0 where
   pub bound : bound_at program new after ≡ with_cells (bound_at program old before) (name_of parameter) (slot_of_name program parameter)
       (first_or_zero (values_in (arguments_from (caller_scope program view caller old before) call place)) ∷ [])
   pub rest : values_in (arguments_from (caller_scope program view caller old before) call next)
@@ -71,7 +71,7 @@ pub record BindsParameter (program : TreeView) (view : View) (caller : Caller) (
   pub cells : length after.cells ≡ length before.cells + 1
 
 -- a function is entered
-abbrev pub moment_entered : Here → Tree → OpenCall → Bound → Moment
+abbrev pub moment_entered : StepStart → Tree → OpenCall → Bound → Moment
 moment_entered here function call bound =
     record {
       task = record here.task { todo = Start (body_of function) ∷ FallOff ∷ []; env = bound.env; calls = call ∷ here.task.calls };

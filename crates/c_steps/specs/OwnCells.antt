@@ -10,7 +10,7 @@ use Rattle.c_model.specs.Clauses.Copying.{First}
 use Rattle.c_model.specs.Copies.{copied_numbers, listed_variables, with_copy, with_listed, with_loop_variable, with_slots}
 use Rattle.c_model.specs.Task.{Store}
 use Rattle.c_steps.specs.declared.scope.Scope.{Scope}
-use Rattle.c_steps.specs.Held.{Held, bound_in}
+use Rattle.c_steps.specs.ControlView.{ControlView, bound_in}
 use Rattle.c_steps.specs.Moves.{bound}
 use Rattle.c_steps.specs.Items.{file_names}
 use Rattle.c_steps.specs.Scopes.{scope_of}
@@ -42,7 +42,7 @@ room_behind_if count None = None
 room_behind_if count (Some room) = room_behind count room
 
 -- the names of the file and those of the function among the first so many, with the first so many cells
-abbrev pub around_at : TreeView → Held → ℕ → Store → ℕ → Bound
+abbrev pub around_at : TreeView → ControlView → ℕ → Store → ℕ → Bound
 around_at program held names store count =
     record { env = file_names program ++ slice_range held.names held.base names; cells = take count store.cells }
 
@@ -81,7 +81,7 @@ abbrev pub made_listed : Bound → List ℤ → List Listed → Bound
 made_listed around cells listed = with_listed around (record { env = []; cells = cells }) listed
 
 -- they are all in scope, and their cells are there
-abbrev pub with_made : Bound → Held → Held
+abbrev pub with_made : Bound → ControlView → ControlView
 with_made made held = record held { names = held.names ++ made.env; names_now = held.names_now - length made.env }
 
 abbrev pub with_made_cells : Bound → Store → Store
@@ -101,27 +101,27 @@ made_task program around cells construct =
     with_slots around (made_listed around cells (listed_variables construct)) (task_copies program construct)
 
 -- the same of a control and its cells
-abbrev pub listed_made_at : TreeView → Held → Store → Tree → Bound
+abbrev pub listed_made_at : TreeView → ControlView → Store → Tree → Bound
 listed_made_at program held store construct = made_listed (bound_in program held store) store.cells (listed_variables construct)
 
-abbrev pub own_made_at : TreeView → Held → Store → Tree → Bound
+abbrev pub own_made_at : TreeView → ControlView → Store → Tree → Bound
 own_made_at program held store construct = made_own program (bound_in program held store) store.cells construct
 
-abbrev pub task_made_at : TreeView → Held → Store → Tree → Bound
+abbrev pub task_made_at : TreeView → ControlView → Store → Tree → Bound
 task_made_at program held store construct = made_task program (bound_in program held store) store.cells construct
 
-abbrev pub slots_made_at : TreeView → Held → ℕ → Store → ℕ → List ℕ → Bound
+abbrev pub slots_made_at : TreeView → ControlView → ℕ → Store → ℕ → List ℕ → Bound
 slots_made_at program held names store count slots = made_slots (around_at program held names store count) store.cells slots
 
 -- a copy comes of a variable that a clause lists, or of one with a slot
-abbrev pub listed_copy_at : TreeView → Held → ℕ → Store → ℕ → Listed → Copy
+abbrev pub listed_copy_at : TreeView → ControlView → ℕ → Store → ℕ → Listed → Copy
 listed_copy_at program held names store count listed = listed_copy (around_at program held names store count) listed
 
-abbrev pub slot_copy_at : TreeView → Held → ℕ → Store → ℕ → ℕ → Copy
+abbrev pub slot_copy_at : TreeView → ControlView → ℕ → Store → ℕ → ℕ → Copy
 slot_copy_at program held names store count slot = slot_copy (around_at program held names store count) slot
 
-abbrev pub copy_numbers_at : TreeView → Held → ℕ → Store → ℕ → Copy → List ℤ
+abbrev pub copy_numbers_at : TreeView → ControlView → ℕ → Store → ℕ → Copy → List ℤ
 copy_numbers_at program held names store count copy = copy_numbers (around_at program held names store count) copy
 
-abbrev pub with_copy_at : TreeView → ℕ → Store → ℕ → Copy → Held → Held
+abbrev pub with_copy_at : TreeView → ℕ → Store → ℕ → Copy → ControlView → ControlView
 with_copy_at program names store count copy held = bound (copy_entry (around_at program held names store count) store.cells copy) held

@@ -4,12 +4,12 @@ use Rattle.c_syntax.specs.language.Numbered.{TreeView, tree_at}
 use Rattle.c_model.specs.declared.point.Point.{Point}
 use Rattle.c_model.specs.Occurring.{IsOfItem, IsTreeOf}
 use Rattle.c_model.specs.Task.{Item, Task}
-use Rattle.c_steps.specs.Held.{Held, task_at}
+use Rattle.c_steps.specs.ControlView.{ControlView, task_at}
 use Rattle.c_model.specs.declared.entry.Entry.{Entry}
 use Rattle.c_steps.specs.declared.item.Item as of_item
 use Rattle.c_steps.specs.declared.item.Item.TheVariants as item
 use Rattle.c_steps.specs.Items.{begun, item_at, items_if, todo_at, with_file}
-use Rattle.c_steps.specs.Ready.{ArePointNumbers}
+use Rattle.c_steps.specs.Ready.{AreFrames, ArePointNumbers, IsAfterStep}
 
 -- an event at this node is of the item
 pub record IsEventOf (program : TreeView) (point : Point) (node : ℕ) (item : Item) : Type 0 where
@@ -24,15 +24,27 @@ IsEventOfNext program point node [] = ⊥
 IsEventOfNext program point node (item ∷ items) = IsEventOf program point node item
 
 -- the task with these items in place of the one that stands next
-abbrev pub replaced : TreeView → List Item → Held → Task
+abbrev pub replaced : TreeView → List Item → ControlView → Task
 replaced program items held = record (task_at program held) { todo = items ++ todo_at program (begun held.frames) }
 
 -- what else of a control a question or an event leaves
-pub record IsAfterEvent (old new : Held) : Type 0 where
+pub record IsAfterEvent (old new : ControlView) : Type 0 where
   pub spare : new.spare ≡ old.spare
   pub passes : new.passes + 1 ≡ old.passes
   pub step_names : new.step_names ≡ old.step_names
   pub room : new.room ≡ old.room
+
+-- an event was passed: these items stand in its place, and these names are in scope
+pub record IsPassed (program : TreeView) (old new : ControlView) (items : List Item) (env : List Entry) : Type 0 where
+  pub task : task_at program new ≡ record (replaced program items old) { env = env }
+  pub after : IsAfterEvent old new
+  pub frames : AreFrames program new.frames
+
+-- an answer was given: these items stand in place of the one that asked
+pub record IsGiven (program : TreeView) (old new : ControlView) (items : List Item) : Type 0 where
+  pub task : task_at program new ≡ replaced program items old
+  pub after : IsAfterStep old new
+  pub frames : AreFrames program new.frames
 
 -- the names behind the end of a worksharing construct: its own end with its work
 abbrev pub names_behind_work : TreeView → of_item.Item → List Entry → List Entry

@@ -21,7 +21,7 @@ use Rattle.c_steps.specs.Nodes.{IsPart, part_at}
 use Rattle.c_steps.specs.Rooming.{IsEntry}
 use Rattle.c_model.specs.declared.entry.Entry.{Entry}
 use Rattle.c_steps.specs.Items.{begun, calls_at, item_at, todo_at}
-use Rattle.c_steps.specs.Held.{Held}
+use Rattle.c_steps.specs.ControlView.{ControlView}
 
 -- the numbers of a loop: each iteration has a value that a cell can hold
 pub record AreLoopNumbers (start : ℤ) (count : ℕ) (step : ℤ) : Type 0 where
@@ -91,7 +91,7 @@ pub record IsFront (program : TreeView) (frames : List Frame) (it : Item) : Type
   pub calls : (names : List Entry) → calls_at program names (begun frames) ≡ calls_at program names frames
 
 -- a step can be made of what stands next
-pub record IsStepping (program : TreeView) (held : Held) : Type 0 where
+pub record IsStepping (program : TreeView) (held : ControlView) : Type 0 where
   pub are_frames : AreFrames program held.frames
   pub can_begin : CanBegin held.frames
   pub are_begun : AreFrames program (begun held.frames)
@@ -99,7 +99,7 @@ pub record IsStepping (program : TreeView) (held : Held) : Type 0 where
   pub spare : 0 < held.spare
 
 -- an event can be passed that is of what stands next
-pub record IsPassing (program : TreeView) (held : Held) : Type 0 where
+pub record IsPassing (program : TreeView) (held : ControlView) : Type 0 where
   pub are_frames : AreFrames program held.frames
   pub can_begin : CanBegin held.frames
   pub are_begun : AreFrames program (begun held.frames)
@@ -107,20 +107,20 @@ pub record IsPassing (program : TreeView) (held : Held) : Type 0 where
   pub passes : 0 < held.passes
 
 -- a silent step takes one from the spare
-pub record IsAfterStep (old new : Held) : Type 0 where
+pub record IsAfterStep (old new : ControlView) : Type 0 where
   pub spare : new.spare + 1 ≡ old.spare
   pub passes : new.passes ≡ old.passes
   pub step_names : new.step_names ≡ old.step_names
   pub room : new.room ≡ old.room
 
 -- an answer but a silent step leaves control and cells as they were
-abbrev pub IsSettled : Next → Held → Store → Held → Store → Type 0
+abbrev pub IsSettled : Next → ControlView → Store → ControlView → Store → Type 0
 IsSettled next.Quiet old before new after = IsAfterStep old new
 IsSettled other old before new after = (new ≡ old) × (after ≡ before)
 
 -- nothing was done
 abbrev pub IsUnchanging : Next → Type 0
-IsUnchanging result = (held : Held) (store : Store) → IsSettled result held store held store
+IsUnchanging result = (held : ControlView) (store : Store) → IsSettled result held store held store
 
 -- of a loop that begins to be shared out each iteration has a value that a cell can hold
 abbrev pub AreWorkNumbers : Work → Type 0

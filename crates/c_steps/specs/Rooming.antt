@@ -5,7 +5,7 @@ use Rattle.c_model.specs.declared.entry.Entry.{Entry}
 use Rattle.c_model.specs.declared.limits.TheConstants.{CELL_LIMIT}
 use Rattle.c_steps.specs.declared.frame.Frame.{Frame}
 use Rattle.c_steps.specs.declared.frame.Frame.TheVariants as frame
-use Rattle.c_steps.specs.Held.{Held}
+use Rattle.c_steps.specs.ControlView.{ControlView}
 
 -- the cells of a name are among those that there may be
 abbrev pub IsEntry : Entry → Type 0
@@ -24,7 +24,7 @@ open_calls (frame.Combines operator name construct from names ∷ frames) = open
 open_calls (frame.Caller base to ∷ frames) = open_calls frames + 1
 
 -- With so many frames and names taken without memory, and this count of open calls, a control has room for what it says.
-pub record HasRoomFor (free_frames free_names calls : ℕ) (held : Held) : Type 0 where
+pub record HasRoomFor (free_frames free_names calls : ℕ) (held : ControlView) : Type 0 where
   pub base : held.base ≤ length held.names
   pub entries : AreEntries held.names
   pub frames : held.frames_now + 3 * held.spare + 3 * held.passes ≤ free_frames

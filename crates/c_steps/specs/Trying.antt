@@ -6,10 +6,10 @@ use Rattle.c_syntax.specs.language.Tree.{Tree}
 use Rattle.c_model.specs.declared.view.View.{View}
 use Rattle.c_model.specs.declared.upcoming.Upcoming.TheVariants as upcoming
 use Rattle.c_model.specs.Cells.{cell_at}
-use Rattle.c_model.specs.Coming.{sets}
+use Rattle.c_model.specs.StepOutcomes.{sets}
 use Rattle.c_model.specs.Statements.{new_number}
 use Rattle.c_model.specs.Step.{silent}
-use Rattle.c_model.specs.Task.{Here, Item as SeenItem, Outcome, Store}
+use Rattle.c_model.specs.Task.{StepStart, Item as SeenItem, Outcome, Store}
 use Rattle.c_model.specs.Task.Outcome.{StepsTo}
 use Rattle.c_model.specs.Upcoming.{upcoming_of}
 use Rattle.c_model.specs.Value.{Scope, cell_of}
@@ -24,15 +24,15 @@ use Rattle.c_steps.specs.declared.plain.Part.{Part}
 use Rattle.c_steps.specs.declared.plain.Part.TheVariants as part
 use Rattle.c_steps.specs.declared.plain.Plain.{Plain}
 use Rattle.c_steps.specs.declared.plain.Plain.TheVariants as plain
-use Rattle.c_steps.specs.Held.{Held, moment_at, task_at}
+use Rattle.c_steps.specs.ControlView.{ControlView, moment_at, task_at}
 use Rattle.c_steps.specs.Items.{begun}
 use Rattle.c_steps.specs.Looking.{IsInPlaceOf, ShowsItem}
 use Rattle.c_steps.specs.Ready.{AreFrames, IsAfterStep}
 use Rattle.c_steps.specs.Rooms.{Stacked}
-use Rattle.c_steps.specs.Standing.{BeginsAs}
+use Rattle.c_steps.specs.FrontFrame.{BeginsAs}
 
 -- nothing was done, but that another frame may say what stands next
-pub record IsUntouched (program : TreeView) (old : Held) (before : Store) (new : Held) (after : Store) : Type 0 where
+pub record IsUntouched (program : TreeView) (old : ControlView) (before : Store) (new : ControlView) (after : Store) : Type 0 where
   pub task : task_at program new ≡ task_at program old
   pub store : after ≡ before
   pub spare : new.spare ≡ old.spare
@@ -41,20 +41,20 @@ pub record IsUntouched (program : TreeView) (old : Held) (before : Store) (new :
   pub room : new.room ≡ old.room
 
 -- the silent step was made that stands next
-pub record IsStepMade (program : TreeView) (view : View) (old : Held) (before : Store) (new : Held) (after : Store) : Type 0 where
+pub record IsStepMade (program : TreeView) (view : View) (old : ControlView) (before : Store) (new : ControlView) (after : Store) : Type 0 where
   pub step : silent program view (moment_at program old before) ≡ StepsTo (moment_at program new after)
   pub kept : IsAfterStep old new
   pub upcoming : upcoming_of view (task_at program old) ≡ upcoming.Step
 
-abbrev pub IsTried : TreeView → View → Bool → Held → Store → Held → Store → Type 0
+abbrev pub IsTried : TreeView → View → Bool → ControlView → Store → ControlView → Store → Type 0
 IsTried program view true old before new after = IsStepMade program view old before new after
 IsTried program view false old before new after = IsUntouched program old before new after
 
 -- so many silent steps were made one after another, the last of them named last; where none was, nothing was done
-abbrev pub HaveStepsMade : TreeView → View → ℕ → Held → Store → Held → Store → Type 0
+abbrev pub HaveStepsMade : TreeView → View → ℕ → ControlView → Store → ControlView → Store → Type 0
 HaveStepsMade program view zero old before new after = IsUntouched program old before new after
 HaveStepsMade program view (suc count) old before new after =
-    (between : Held) × (middle : Store) × HaveStepsMade program view count old before between middle × IsStepMade program view between middle new after
+    (between : ControlView) × (middle : Store) × HaveStepsMade program view count old before between middle × IsStepMade program view between middle new after
 
 -- what stands next by a plain item
 abbrev pub item_of : Plain → Item
@@ -100,22 +100,22 @@ Shows program it names part.Past = HasPart it × IsInPlaceOf program it (next_pa
 Shows program it names part.Over = IsInPlaceOf program it (frame.One (item.Leave names))
 
 -- a step was made that comes to this
-pub record ComesTo (program : TreeView) (outcome : Outcome) (old : Held) (new : Held) (after : Store) : Type 0 where
+pub record ComesTo (program : TreeView) (outcome : Outcome) (old : ControlView) (new : ControlView) (after : Store) : Type 0 where
   pub step : outcome ≡ StepsTo (moment_at program new after)
   pub kept : IsAfterStep old new
   pub frames : AreFrames program new.frames
 
 -- .. or nothing was done
-abbrev pub IsAttempt : TreeView → Outcome → Bool → Held → Store → Held → Store → Type 0
-IsAttempt program outcome true old before new after = ComesTo program outcome old new after
-IsAttempt program outcome false old before new after = (new ≡ old) × (after ≡ before)
+abbrev pub IsAttempt : TreeView → Bool → ControlView → Store → ControlView → Store → Outcome → Type 0
+IsAttempt program true old before new after outcome = ComesTo program outcome old new after
+IsAttempt program false old before new after outcome = (new ≡ old) × (after ≡ before)
 
 abbrev pub is_quiet : Next → Bool
 is_quiet next.Quiet = true
 is_quiet other = false
 
 -- a statement that makes no step but this change of a cell comes to this, whatever stands next behind it
-abbrev pub IsChange : (List SeenItem → Outcome) → Here → Change → Type 0
+abbrev pub IsChange : (List SeenItem → Outcome) → StepStart → Change → Type 0
 IsChange outcome here change = (items : List SeenItem) → outcome items ≡ sets here change.cell change.number items
 
 -- an assignment of a number makes this change

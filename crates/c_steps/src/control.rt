@@ -66,10 +66,10 @@ pub struct Control {
 }
 
 impl Model for Control {
-    ghost use Rattle.c_steps.specs.Held.{Held};
+    ghost use Rattle.c_steps.specs.ControlView.{ControlView};
     ghost use Rattle.c_steps.specs.Rooming.{HasRoomFor};
 
-    ghost Value = { Held };
+    ghost Value = { ControlView };
 
     ghost view = { λ control. record {
       frames = control.stack.frames;

@@ -2,7 +2,7 @@
 
 ghost use Rattle.std.specs.Prelude.{◌≡◌, ◌∷◌, []};
 ghost use Rattle.c_steps.specs.Ready.{CanBegin};
-ghost use Rattle.c_steps.specs.Standing.{BeginsAs};
+ghost use Rattle.c_steps.specs.FrontFrame.{BeginsAs};
 ghost use Rattle.c_steps.specs.Trying.{HasPart, IsBegunFrame, next_part};
 
 use crate::item::Item;

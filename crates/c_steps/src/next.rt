@@ -1,7 +1,7 @@
 //! What an advance comes to.
 
 ghost use Rattle.std.specs.Prelude.{◌≡◌};
-ghost use Rattle.c_steps.specs.Held.{next_of, next_of_call};
+ghost use Rattle.c_steps.specs.ControlView.{next_of, next_of_call};
 ghost use Rattle.c_steps.specs.Trying.{is_quiet};
 
 use c_model::{Ask, Point};

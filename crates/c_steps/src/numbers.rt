@@ -1,8 +1,8 @@
 //! The operators of expressions and reductions on numbers of 32 bits (C11 6.5).
 
-ghost use Rattle.std.specs.Prelude.{◌≡◌, ◌+ℤ◌, ◌-ℤ◌, ◌*ℤ◌, if◌then◌else◌, int_le, neg_ℤ, not};
+ghost use Rattle.std.specs.Prelude.{◌≡◌, ◌+ℤ◌, ◌-ℤ◌, ◌*ℤ◌, if◌then◌else◌, int_le, neg_ℤ};
 ghost use Rattle.c_model.specs.Constructs.{reduction_result};
-ghost use Rattle.c_model.specs.Value.{in_range, truth, is_zero, quotient, remainder, binary_result, unary_result, deciding_value};
+ghost use Rattle.c_model.specs.Value.{in_range, truth, quotient, remainder, binary_result, unary_result, deciding_value};
 
 use c_model::{OVERFLOW, ZERO_DIVIDE};
 use c_syntax::{BinaryOp, ReductionOp, UnaryOp};

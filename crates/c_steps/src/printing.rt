@@ -4,7 +4,6 @@ ghost use Rattle.std.specs.Prelude.{◌≡◌, ◌+◌, ◌<◌, ◌≤◌, ℕ,
 ghost use Rattle.c_model.specs.Text.{escaped_byte, first_decimal, numbers_behind_first, printed_text, text_behind_backslash, text_behind_percent};
 ghost use Rattle.c_steps.specs.Arguments.{HaveValues, numbers_behind};
 ghost use Rattle.c_steps.specs.Printing.{numbers_left, piece_text, text_left, text_printed};
-ghost use Rattle.c_steps.specs.Scopes.{HasNumbers};
 
 use crate::scope::Scope;
 use c_model::TEXT_LIMIT;
@@ -42,7 +41,6 @@ struct Progress {
 /// expressions have no trap.
 pub(crate) fn print(scope: &Scope<'_>, node: u32, text: &mut Vec<u8>) -> bool
     requires node { node < length scope.now.tree.now.trees }
-    requires view { HasNumbers scope.now.view }
     requires values { HaveValues scope.now node 0 }
     requires room { TEXT_LIMIT ≤ vec_capacity text.old }
     ensures text { text.new.items ≡ (if result then text.old.items ++ text_printed scope.now node else text.old.items) }
@@ -64,7 +62,6 @@ pub(crate) fn print(scope: &Scope<'_>, node: u32, text: &mut Vec<u8>) -> bool
 #[tactic(auto, using(crate::proofs::PrintingText::limit_kept, crate::proofs::PrintingText::front_kept))]
 fn append_text(scope: &Scope<'_>, node: u32, text: &mut Vec<u8>) -> bool
     requires node { node < length scope.now.tree.now.trees }
-    requires view { HasNumbers scope.now.view }
     requires values { HaveValues scope.now node 0 }
     requires room { TEXT_LIMIT ≤ vec_capacity text.old }
     requires few { length text.old.items ≤ TEXT_LIMIT }
@@ -95,7 +92,6 @@ fn append_byte(
     text: &mut Vec<u8>,
 ) -> Option<Progress>
     requires node { node < length scope.now.tree.now.trees }
-    requires view { HasNumbers scope.now.view }
     requires values { HaveValues scope.now node progress.place }
     requires room { TEXT_LIMIT ≤ vec_capacity text.old }
     requires few { length text.old.items ≤ TEXT_LIMIT }
@@ -136,7 +132,6 @@ fn append_byte(
 /// Appends the decimal of the number at a place, unless that is more than may be. Answers the place of the next number.
 fn append_number(scope: &Scope<'_>, node: u32, place: u32, text: &mut Vec<u8>) -> Option<u32>
     requires node { node < length scope.now.tree.now.trees }
-    requires view { HasNumbers scope.now.view }
     requires values { HaveValues scope.now node place }
     requires room { TEXT_LIMIT ≤ vec_capacity text.old }
     requires few { length text.old.items ≤ TEXT_LIMIT }
@@ -166,7 +161,6 @@ fn append_number(scope: &Scope<'_>, node: u32, place: u32, text: &mut Vec<u8>) -
 #[tactic(auto, using(crate::proofs::PrintingNumbers::numbers_cases))]
 fn number_at(scope: &Scope<'_>, node: u32, place: u32) -> Option<i32>
     requires node { node < length scope.now.tree.now.trees }
-    requires view { HasNumbers scope.now.view }
     requires values { HaveValues scope.now node place }
     ensures numbers { MatchOption result (numbers_behind scope.now node place ≡ []) (λ number.
         numbers_behind scope.now node place ≡ number ∷ numbers_behind scope.now node (place + 1)) }

@@ -5,7 +5,6 @@ ghost use Rattle.c_syntax.specs.language.Tree.{children_of, kind_of};
 ghost use Rattle.c_syntax.specs.language.Numbered.{root_tree, tree_at};
 ghost use Rattle.c_model.specs.Parts.{declarators_in, flat_declarations, parts};
 ghost use Rattle.c_model.specs.Width as widths;
-ghost use Rattle.c_steps.specs.Nodes.{IsPart};
 ghost use Rattle.c_steps.specs.Widths as numbers;
 
 use crate::listed::listed_count;

@@ -24,7 +24,7 @@ use Rattle.omp_model.specs.declared.history.What.{What}
 use Rattle.omp_model.specs.declared.history.What.TheVariants.{Go, Put, Back}
 use Rattle.omp_model.specs.Conditions.{IsOrderly}
 use Rattle.omp_model.specs.Legal.{AllowsFrom, Legal, after, after_from, does, entered, may}
-use Rattle.omp_model.specs.Made.{IsMadeState, IsMadeWorld}
+use Rattle.omp_model.specs.MadeWorld.{IsMadeState, IsMadeWorld}
 use Rattle.omp_model.specs.Members.{code_of, current, current_index, current_region, current_team, is_explicit_task, member_index, moment_of, view_of}
 use Rattle.omp_model.specs.Silent.{answer_to, fitting_chunk, fitting_section, items_asking}
 use Rattle.omp_model.specs.State.{Run, State, World, first, pending_at, task_at}

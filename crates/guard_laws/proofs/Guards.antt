@@ -12,9 +12,9 @@ use Rattle.omp_model.specs.declared.event.Event.TheVariants.{MemberBegin, Parall
 use Rattle.omp_model.specs.declared.event.Outcome.TheVariants.{Happens}
 use Rattle.omp_model.specs.declared.history.Entry.{Entry}
 use Rattle.omp_model.specs.declared.parts.RegionHead.{RegionHead}
-use Rattle.omp_model.specs.Going.{has_forked}
+use Rattle.omp_model.specs.EventEffects.{has_forked}
 use Rattle.omp_model.specs.Legal.{Legal, after}
-use Rattle.omp_model.specs.Made.{IsForkedRegion}
+use Rattle.omp_model.specs.MadeWorld.{IsForkedRegion}
 use Rattle.omp_model.specs.Members.{current, member_index}
 use Rattle.omp_model.specs.State.{Run, State, Thread, region_at, task_at, thread_at}
 use Rattle.omp_model.proofs.Touching.{joined_by}

@@ -12,7 +12,7 @@ use Rattle.omp_model.specs.declared.history.What.{What}
 use Rattle.omp_model.specs.declared.history.What.TheVariants.{Go, Put, Back}
 use Rattle.omp_model.specs.Conditions.{IsOrderly}
 use Rattle.omp_model.specs.Legal.{AllowsFrom, Legal, after, after_from, back, does, entered, may}
-use Rattle.omp_model.specs.Made.{IsMadeState}
+use Rattle.omp_model.specs.MadeWorld.{IsMadeState}
 use Rattle.omp_model.specs.State.{Run, State, World, first, pending_at}
 use Rattle.omp_model.specs.Turn.{enabled, turn}
 use Rattle.omp_model.proofs.MadeRuns.{made-after}

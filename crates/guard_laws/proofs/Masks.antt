@@ -12,7 +12,7 @@ use Rattle.c_brackets.proofs.ReturnPrograms.{returns_outside}
 use Rattle.omp_codes.specs.declared.callbacks.TheConstants.{PROFILE_MASK}
 use Rattle.ompt_calls.specs.declared.snapshot.Target.{Target}
 use Rattle.omp_model.specs.declared.event.Arrival.{Arrival}
-use Rattle.omp_model.specs.declared.event.Arrival.TheVariants.{Comes, Meets, Steps, Waits}
+use Rattle.omp_model.specs.declared.event.Arrival.TheVariants.{CodeEvent, RuntimeEvent, Steps, Waits}
 use Rattle.omp_model.specs.declared.event.Callback.{Callback}
 use Rattle.omp_model.specs.declared.event.Halt.{Halt}
 use Rattle.omp_model.specs.declared.event.Halt.TheVariants.{Limit}
@@ -20,14 +20,14 @@ use Rattle.omp_model.specs.declared.history.Entry.{Entry}
 use Rattle.omp_model.specs.declared.history.What.{What}
 use Rattle.omp_model.specs.declared.history.What.TheVariants.{Back, Go, Put}
 use Rattle.omp_model.specs.declared.limits.TheConstants.{STEPS, STEPS_OF_A_TURN, STORE_LIMIT, TURNS, TURN_LIMIT}
-use Rattle.omp_model.specs.Changes.{gone_past}
+use Rattle.omp_model.specs.Changes.{with_masked_skipped}
 use Rattle.omp_model.specs.Gates.{arrival}
-use Rattle.omp_model.specs.Going.{effect_of_point, event_of_point, fault_of_point, going_by, going_in_code, past_point, told, unless}
+use Rattle.omp_model.specs.EventEffects.{effect_of_point, event_of_point, fault_of_point, going_by, go_of_code, past_point, told, unless}
 use Rattle.omp_model.specs.Legal.{AllowsFrom, Legal, after, after_from, does, entered, is_told, may, may_put}
 use Rattle.omp_model.specs.Members.{view_of}
 use Rattle.omp_model.specs.Silent.{Goes, Silence, Stops, silent_step}
 use Rattle.omp_model.specs.State.{Run, State, World, first, pending_at}
-use Rattle.omp_model.specs.Turn.{Turn, Walk, after_steps, after_walk, going_past, halted, stepped, turn, unlimited, walk, walk_by, walk_on, walked, with_going}
+use Rattle.omp_model.specs.Turn.{Turn, Walk, after_steps, after_walk, state_past_masked, halted, stepped, turn, unlimited, walk, walk_by, walk_on, walked, with_going}
 use Rattle.omp_model.specs.Words.{is_made}
 use Rattle.nested_runs.proofs.Knows.{IsWholeRun}
 use Rattle.nested_runs.proofs.Histories.{registered}
@@ -61,8 +61,8 @@ module _ (run : Run) where
   told-by W t now (Asks ask tree) = refl
   told-by W t now (Ends number) = refl
 
-  told-in_code : (W : World) (t : ℕ) → going_in_code (all_told run) W t ≡ going_in_code run W t
-  unfolding going_in_code
+  told-in_code : (W : World) (t : ℕ) → go_of_code (all_told run) W t ≡ go_of_code run W t
+  unfolding go_of_code
   told-in_code W t = let now = told W t in told-by W t now (silent run.program (view_of W t) now)
 
   told-walk_by : (S : State) (made : ℕ) (silence : Silence) (more less : World → Walk) → ((W : World) → more W ≡ less W) → walk_by S made silence more ≡ walk_by S made silence less
@@ -70,19 +70,19 @@ module _ (run : Run) where
   told-walk_by S made (Stops halt) more less same = refl
 
   told-step : (S : State) (t made : ℕ) (over : Bool) (more less : World → Walk) → ((W : World) → more W ≡ less W) →
-      (if over then walked S made (Some (Limit STEPS)) else walk_by (going_past S t) made (silent_step (all_told run) S.world t) more)
-      ≡ (if over then walked S made (Some (Limit STEPS)) else walk_by (going_past S t) made (silent_step run S.world t) less)
+      (if over then walked S made (Some (Limit STEPS)) else walk_by (state_past_masked S t) made (silent_step (all_told run) S.world t) more)
+      ≡ (if over then walked S made (Some (Limit STEPS)) else walk_by (state_past_masked S t) made (silent_step run S.world t) less)
   told-step S t made true more less same = refl
   told-step S t made false more less same =
-      ap (λ (silence : Silence). walk_by (going_past S t) made silence more) (told-silent S.world t)
-      ∙ told-walk_by (going_past S t) made (silent_step run S.world t) more less same
+      ap (λ (silence : Silence). walk_by (state_past_masked S t) made silence more) (told-silent S.world t)
+      ∙ told-walk_by (state_past_masked S t) made (silent_step run S.world t) more less same
 
   told-walk_on : (S : State) (t made : ℕ) (next : Arrival) (more less : World → Walk) → ((W : World) → more W ≡ less W) →
       walk_on (all_told run) S t made next more ≡ walk_on run S t made next less
   told-walk_on S t made Steps more less same = told-step S t made (nat_le run.steps S.steps) more less same
   told-walk_on S t made Waits more less same = refl
-  told-walk_on S t made Comes more less same = refl
-  told-walk_on S t made (Meets event) more less same = refl
+  told-walk_on S t made CodeEvent more less same = refl
+  told-walk_on S t made (RuntimeEvent event) more less same = refl
 
   pub told-walk : (left made : ℕ) (S : State) (t : ℕ) → walk (all_told run) left made S t ≡ walk run left made S t
   unfolding walk
@@ -92,10 +92,10 @@ module _ (run : Run) where
       (λ W. told-walk left (made + 1) (stepped S W) t)
 
   told-after_steps : (S : State) (made t : ℕ) (next : Arrival) → after_steps (all_told run) S made t next ≡ after_steps run S made t next
-  told-after_steps S made t Comes = ap (with_going (going_past S t) made t) (told-in_code (gone_past S.world t) t)
+  told-after_steps S made t CodeEvent = ap (with_going (state_past_masked S t) made t) (told-in_code (with_masked_skipped S.world t) t)
   told-after_steps S made t Waits = refl
   told-after_steps S made t Steps = refl
-  told-after_steps S made t (Meets event) = refl
+  told-after_steps S made t (RuntimeEvent event) = refl
 
   told-after_walk : (w : Walk) (t : ℕ) (stop : Option Halt) → after_walk (all_told run) w t stop ≡ after_walk run w t stop
   told-after_walk w t (Some halt) = refl

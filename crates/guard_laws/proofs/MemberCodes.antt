@@ -19,12 +19,12 @@ use Rattle.omp_model.specs.declared.event.Halt.{Halt}
 use Rattle.omp_model.specs.declared.event.Outcome.TheVariants.{Happens}
 use Rattle.omp_model.specs.declared.history.Entry.{Entry}
 use Rattle.omp_model.proofs.Alike.{QuietWorld}
-use Rattle.omp_model.specs.Changes.{started, taken_up, task_made}
-use Rattle.omp_model.specs.Going.{Going, after_member, effect_of, event_of_point, fault_of, fault_of_point, going_by, going_in_code, has_forked, member_code, past_point, effect_of_point, told, unless}
-use Rattle.omp_model.specs.Going.{Halts, Nothing}
-use Rattle.omp_model.specs.Going.{Happens as Goes}
+use Rattle.omp_model.specs.Changes.{with_started_task, taken_up, task_made}
+use Rattle.omp_model.specs.EventEffects.{Going, after_member, effect_of, event_of_point, fault_of, fault_of_point, going_by, go_of_code, has_forked, member_code, past_point, effect_of_point, told, unless}
+use Rattle.omp_model.specs.EventEffects.{Halts, Nothing}
+use Rattle.omp_model.specs.EventEffects.{Happens as Goes}
 use Rattle.omp_model.specs.Legal.{after}
-use Rattle.omp_model.specs.Made.{IsMadeWorld, IsRegionOf}
+use Rattle.omp_model.specs.MadeWorld.{IsMadeWorld, IsRegionOf}
 use Rattle.omp_model.specs.Members.{member_index, view_of}
 use Rattle.omp_model.specs.State.{Region, Run, Task, World, no_region, no_task, pooled_at, region_at, task_at, task_with}
 use Rattle.omp_model.specs.Turn.{turn}
@@ -68,20 +68,20 @@ by-apart run W t now (StepsTo next) = tt
 by-apart run W t now (Asks ask tree) = tt
 by-apart run W t now (Ends number) = tt
 
-in_code-apart : (run : Run) (W : World) (t : ℕ) → GoesApart (going_in_code run W t)
-unfolding going_in_code
+in_code-apart : (run : Run) (W : World) (t : ℕ) → GoesApart (go_of_code run W t)
+unfolding go_of_code
 in_code-apart run W t = let now = told W t in by-apart run W t now (silent run.program (view_of W t) now)
 
 -- What the begin of a member makes.
 
-started-tasks : (W : World) (k : ℕ) → (started W k).tasks ≡ W.tasks
+started-tasks : (W : World) (k : ℕ) → (with_started_task W k).tasks ≡ W.tasks
 started-tasks W k = by (is_finished (pooled_at W k).condition)
   where
     by : (b : Bool) → (if b then W else record W { pool = with_started W.pool k }).tasks ≡ W.tasks
     by true = refl
     by false = refl
 
-started-regions : (W : World) (k : ℕ) → (started W k).regions ≡ W.regions
+started-regions : (W : World) (k : ℕ) → (with_started_task W k).regions ≡ W.regions
 started-regions W k = by (is_finished (pooled_at W k).condition)
   where
     by : (b : Bool) → (if b then W else record W { pool = with_started W.pool k }).regions ≡ W.regions
@@ -98,13 +98,13 @@ module _ (W : World) (t r : ℕ) where
   -- the codes are those of the tasks that there are now
   codes-made : (k j : ℕ) → (task_at (after_member W t r k) j).code ≡ (task_at fresh j).code
   codes-made k j =
-      read-same (λ (x : Task). x.code) no_task (started fresh k).tasks k j (record (task_at (started fresh k) k) { thread = t }) refl
+      read-same (λ (x : Task). x.code) no_task (with_started_task fresh k).tasks k j (record (task_at (with_started_task fresh k) k) { thread = t }) refl
       ∙ ap (λ (tasks : List Task). (slice_index_or tasks j no_task).code) (started-tasks fresh k)
 
   -- the region has the same encountering task
   parent-kept : (k : ℕ) → (region_at (after_member W t r k) r).head.task ≡ parent
   parent-kept k =
-      let begun = taken_up (started fresh k) t k in
+      let begun = taken_up (with_started_task fresh k) t k in
       read-same (λ (x : Region). x.head.task) no_region begun.regions r r
       (record (region_at begun r) { head = record (region_at begun r).head { members = slice_set (region_at begun r).head.members (member_index W t r) k } }) refl
       ∙ ap (λ (regions : List Region). (slice_index_or regions r no_region).head.task) (started-regions fresh k)

@@ -32,9 +32,9 @@ use Rattle.omp_model.specs.declared.limits.TheConstants.{NESTING}
 use Rattle.omp_model.specs.State.{Region, Run, World, no_region, region_at}
 use Rattle.omp_model.specs.Members.{current, current_index, current_region, current_team, is_explicit_task, moment_of, view_of}
 use Rattle.omp_model.specs.Gates.{is_barrier}
-use Rattle.omp_model.specs.Changes.{met}
-use Rattle.omp_model.specs.Going.{Happens, after_meeting_at, barrier_met, dealt_by, effect_of_point, event_of_point, executes_work, fault_of_meeting, fault_of_point, going_by, going_in_code, meeting_at, meeting_fault, past_point, single_kind, told, work_met}
-use Rattle.omp_model.specs.Made.{IsMadeWorld}
+use Rattle.omp_model.specs.Changes.{with_member_meeting}
+use Rattle.omp_model.specs.EventEffects.{Happens, after_meeting_at, barrier_met, dealt_by, effect_of_point, event_of_point, executes_work, fault_of_meeting, fault_of_point, going_by, go_of_code, meeting_at, meeting_fault, past_point, single_kind, told, work_met}
+use Rattle.omp_model.specs.MadeWorld.{IsMadeWorld}
 use Rattle.omp_model.proofs.Arriving.{Arrives, Reached, arrives}
 use Rattle.omp_model.proofs.Gos.{unless-goes}
 use Rattle.omp_model.proofs.Guards.{member-made}
@@ -113,7 +113,7 @@ module _ (run : Run) (W : World) (t : ℕ) (made : IsMadeWorld W) (codes : AreCo
   met-team what =
       let r = current_region W t in
       let region : Region = record (region_at W r) { team = after_meeting (current_team W t) (current_index W t) what } in
-      ap (λ (b : Bool). let after = if b then met W r (current_index W t) what else W in (region_at after r).team) (member-made W t made some)
+      ap (λ (b : Bool). let after = if b then with_member_meeting W r (current_index W t) what else W in (region_at after r).team) (member-made W t made some)
       ∙ ap (λ (x : Region). x.team) (get_or-set_same W.regions r region no_region (region-below W t made))
 
   begins : (codeptr : ℕ) (what : Work) (which : WorkKind) (count : ℕ) → HasChunk (work_met codeptr what) →
@@ -155,8 +155,8 @@ module _ (run : Run) (W : World) (t : ℕ) (made : IsMadeWorld W) (codes : AreCo
   by-outcome after e (Traps trap) happens = cc
   by-outcome after e (Limits limit) happens = cc
 
-  in-code : (after : World) (e : Event) → going_in_code run W t ≡ Happens e after → MeetsFree W after t e
-  unfolding going_in_code
+  in-code : (after : World) (e : Event) → go_of_code run W t ≡ Happens e after → MeetsFree W after t e
+  unfolding go_of_code
   in-code after e happens = by-outcome after e (silent run.program (view_of W t) (told W t)) happens
 
 -- ---- any event

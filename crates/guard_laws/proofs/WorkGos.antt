@@ -20,8 +20,8 @@ use Rattle.omp_model.specs.State.{Region, Run, World, no_region, pooled_at, regi
 use Rattle.omp_model.specs.Members.{current, current_index, current_region, current_team, is_explicit_task, member_index, region_of}
 use Rattle.omp_model.specs.Conditions.{has_started}
 use Rattle.omp_model.specs.Gates.{is_barrier}
-use Rattle.omp_model.specs.Going.{barrier_met}
-use Rattle.omp_model.specs.Made.{IsTask}
+use Rattle.omp_model.specs.EventEffects.{barrier_met}
+use Rattle.omp_model.specs.MadeWorld.{IsTask}
 use Rattle.omp_model.proofs.Touching.{AtBarrierElse, Meets, SameTeam, is_of_code}
 use Rattle.omp_model.proofs.MadeEvents.{current-below}
 use Rattle.nested_runs.proofs.Effects.{effect_of_event, opens_after}

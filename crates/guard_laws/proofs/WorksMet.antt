@@ -14,7 +14,7 @@ use Rattle.omp_model.specs.declared.event.Event.{Event}
 use Rattle.omp_model.specs.declared.event.Event.TheVariants.{Sync}
 use Rattle.omp_model.proofs.Alike.{AlikeWorld}
 use Rattle.omp_model.specs.Gates.{is_barrier}
-use Rattle.omp_model.specs.Made.{IsTask}
+use Rattle.omp_model.specs.MadeWorld.{IsTask}
 use Rattle.omp_model.specs.Members.{current_index, current_region, is_explicit_task, member_index, region_of}
 use Rattle.omp_model.specs.State.{Run, World, first_world, fresh_team, pooled_at, region_at, task_at}
 use Rattle.omp_model.proofs.Touching.{Returns, team_back}

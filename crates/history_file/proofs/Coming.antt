@@ -8,7 +8,7 @@ use Rattle.omp_model.specs.Legal.{Legal, after, after_from, entered, may}
 use Rattle.omp_model.specs.State.{Run, State, first, pending_at}
 use Rattle.history_file.specs.declared.verdict.HeardCall.{HeardCall}
 use Rattle.history_file.specs.declared.waiting.Waiting.{Waiting}
-use Rattle.history_file.specs.Coming.{AreBefore, HasCome, IsWaiting, is_kept}
+use Rattle.history_file.specs.RerunProgress.{AreBefore, HasCome, IsWaiting, is_kept}
 use Rattle.history_file.specs.Verdicts.{heard_call}
 
 -- the same calls are kept by tests that are the same on them

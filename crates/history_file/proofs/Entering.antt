@@ -25,7 +25,7 @@ use Rattle.omp_model.proofs.Reading.{read-same}
 use Rattle.omp_model.proofs.Turns.{halts-pending, quiet-pending, turn-goes, turn-pending}
 use Rattle.history_file.specs.declared.verdict.HeardCall.{HeardCall}
 use Rattle.history_file.specs.declared.waiting.Waiting.{Waiting}
-use Rattle.history_file.specs.Coming.{HasCome, entry_of, IsWaiting, is_kept, is_place, told_of, waits}
+use Rattle.history_file.specs.RerunProgress.{HasCome, entry_of, IsWaiting, is_kept, is_place, told_of, waits}
 use Rattle.history_file.specs.Verdicts.{heard_call}
 use Rattle.history_file.proofs.Coming.{before_last, before_more, one_more, same_filter}
 use Rattle.history_file.proofs.Inside.{inside_of, none_waiting, one_waiting}

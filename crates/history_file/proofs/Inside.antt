@@ -9,7 +9,7 @@ use Rattle.omp_model.specs.Legal.{is_told, may_put}
 use Rattle.omp_model.specs.State.{Run, State}
 use Rattle.omp_model.specs.Words.{is_made}
 use Rattle.history_file.specs.declared.waiting.Waiting.{Waiting}
-use Rattle.history_file.specs.Coming.{IsWaiting}
+use Rattle.history_file.specs.RerunProgress.{IsWaiting}
 
 -- what is known of each thread
 abbrev pub AreWaiting : Run → List (Option Waiting) → List (Option Callback) → Type 0

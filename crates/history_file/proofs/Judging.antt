@@ -17,7 +17,7 @@ use Rattle.history_file.specs.declared.file.HistoryFile.{HistoryFile}
 use Rattle.history_file.specs.declared.verdict.HeardCall.{HeardCall}
 use Rattle.history_file.specs.declared.waiting.Waiting.{Waiting}
 use Rattle.history_file.specs.Certificates.{IsCertificate, IsLegalFront}
-use Rattle.history_file.specs.Coming.{EndsAs, HasCome, IsWaiting, is_kept}
+use Rattle.history_file.specs.RerunProgress.{EndsAs, HasCome, IsWaiting, is_kept}
 use Rattle.history_file.specs.Verdicts.{heard_call}
 
 -- before the first entry

@@ -15,7 +15,7 @@ use Rattle.omp_model.specs.Turn.{enabled, goes_on}
 use Rattle.omp_model.specs.Words.{is_made, is_made_identity, is_made_thread}
 use Rattle.omp_model.specs.Cause.{cause_of}
 use Rattle.omp_model.specs.Legal.{AllowsFrom, Legal, after, entered, is_told, may, may_put}
-use Rattle.omp_model.specs.Made.{IsMadeState, IsThread}
+use Rattle.omp_model.specs.MadeWorld.{IsMadeState, IsThread}
 use Rattle.omp_model.specs.declared.limits.TheConstants.{STORE_LIMIT}
 use Rattle.omp_model.proofs.Arriving.{thread-goes}
 use Rattle.omp_model.proofs.MadeRuns.{made-after, state-does}

@@ -24,13 +24,13 @@ use Rattle.omp_model.proofs.MadeRuns.{at-replicate}
 use Rattle.omp_model.proofs.Turns.{turn-not_idle}
 use Rattle.omp_machine.specs.declared.went.Went.{Went}
 use Rattle.omp_machine.specs.declared.went.Went.TheVariants.{Told, Untold}
-use Rattle.omp_machine.specs.Standing.{Standing, went_after, went_of, went_of_halt}
+use Rattle.omp_machine.specs.MachineView.{MachineView, went_after, went_of, went_of_halt}
 use Rattle.history_file.specs.declared.file.HistoryFile.{HistoryFile}
 use Rattle.history_file.specs.declared.progress.Progress.{Progress}
 use Rattle.history_file.specs.declared.verdict.HeardCall.{HeardCall}
 use Rattle.history_file.specs.declared.verdict.Verdict.TheVariants as verdict
 use Rattle.history_file.specs.declared.waiting.Waiting.{Waiting}
-use Rattle.history_file.specs.Coming.{EndsAs, HasCome, IsWaiting, entry_of, is_kept, waits}
+use Rattle.history_file.specs.RerunProgress.{EndsAs, HasCome, IsWaiting, entry_of, is_kept, waits}
 use Rattle.history_file.specs.Progressing.{IsAt, Steps, Stops, Takes, calls_after, waiting_after}
 use Rattle.history_file.specs.Verdicts.{IsVerdict, heard_call}
 use Rattle.history_file.proofs.Entering.{after_back, after_halt, after_put, after_quiet, after_told, after_untold}
@@ -69,12 +69,12 @@ takes : (old new : Progress) (entry : Entry) (S : State) (waiting : List (Option
     → new.waiting ≡ waiting → new.calls.items ≡ calls → new.seq ≡ old.seq + 1
     → ((done : List Entry) → IsAt done old → HasCome old.machine.run (done ++ entry ∷ []) S waiting calls) → Takes old entry new
 takes old new entry S waiting calls machine_is waiting_is calls_is seq_is comes = record {
-  run_is = ap (λ (machine : Standing). machine.run) machine_is;
+  run_is = ap (λ (machine : MachineView). machine.run) machine_is;
   at = λ done at.
       let now = done ++ entry ∷ [] in
       record {
         come =
-            subst (λ (machine : Standing). HasCome machine.run now machine.state new.waiting new.calls.items) (sym machine_is)
+            subst (λ (machine : MachineView). HasCome machine.run now machine.state new.waiting new.calls.items) (sym machine_is)
             (subst (λ (all : List (Option Waiting)). HasCome old.machine.run now S all new.calls.items) (sym waiting_is)
             (subst (HasCome old.machine.run now S waiting) (sym calls_is) (comes done at)));
         seq_is = seq_is ∙ ap (λ (place : ℕ). place + 1) at.seq_is ∙ sym (length_push done entry);
@@ -139,7 +139,7 @@ pub starts : (progress : Progress) (run : Run) → run.threads ≤ 16 → progre
     → progress.seq ≡ 0 → IsAt [] progress
 starts progress run few machine_is waiting_is calls_is seq_is = record {
   come =
-      subst (λ (machine : Standing). HasCome machine.run [] machine.state progress.waiting progress.calls.items) (sym machine_is)
+      subst (λ (machine : MachineView). HasCome machine.run [] machine.state progress.waiting progress.calls.items) (sym machine_is)
       (subst (λ (waiting : List (Option Waiting)). HasCome run [] (first run) waiting progress.calls.items) (sym waiting_is)
       (subst (HasCome run [] (first run) (replicate 16 None)) (sym calls_is)
       (at_first run (replicate 16 None) few (λ t. at-replicate (λ (o : Option Waiting). o ≡ None) 16 t None refl))));

@@ -6,5 +6,5 @@ pub mod Paging
 pub mod Reading
 pub mod Certificates
 pub mod Verdicts
-pub mod Coming
+pub mod RerunProgress
 pub mod Progressing

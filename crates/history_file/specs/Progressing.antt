@@ -7,7 +7,7 @@ use Rattle.omp_model.specs.Legal.{may}
 use Rattle.history_file.specs.declared.progress.Progress.{Progress}
 use Rattle.history_file.specs.declared.verdict.HeardCall.{HeardCall}
 use Rattle.history_file.specs.declared.waiting.Waiting.{Waiting}
-use Rattle.history_file.specs.Coming.{HasCome}
+use Rattle.history_file.specs.RerunProgress.{HasCome}
 
 -- these are the entries so far
 pub record IsAt (done : List Entry) (progress : Progress) : Type 0 where

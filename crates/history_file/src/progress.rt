@@ -6,7 +6,7 @@ ghost use Rattle.omp_model.specs.declared.history.What.TheVariants.{Back, Go, Pu
 ghost use Rattle.omp_model.specs.Heard.{heard};
 ghost use Rattle.history_file.specs.declared.file.TheConstants.{ENTRY_LIMIT};
 ghost use Rattle.history_file.specs.Certificates.{run_of_file};
-ghost use Rattle.history_file.specs.Coming.{EndsAs, entry_of};
+ghost use Rattle.history_file.specs.RerunProgress.{EndsAs, entry_of};
 ghost use Rattle.history_file.specs.Progressing.{Goes, IsAt, Steps, calls_after, waiting_after};
 ghost use Rattle.history_file.specs.Validity.{IsEntry, IsHistoryFile};
 ghost use Rattle.history_file.specs.Verdicts.{IsVerdict, heard_call};

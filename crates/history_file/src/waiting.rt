@@ -2,7 +2,7 @@
 
 ghost use Rattle.std.specs.Prelude.{◌≡◌, ◌&&◌, is_some, nat_lt};
 ghost use Rattle.omp_model.specs.declared.limits.TheConstants.{STORE_LIMIT};
-ghost use Rattle.history_file.specs.Coming.{is_place, waits};
+ghost use Rattle.history_file.specs.RerunProgress.{is_place, waits};
 
 use crate::verdict::HeardCall;
 use omp_model::STORE_LIMIT;

@@ -10,7 +10,7 @@ use Rattle.c_model.specs.declared.question.Ask.{Ask}
 use Rattle.c_model.specs.declared.question.Ask.TheVariants as ask
 use Rattle.c_model.specs.declared.view.View.{View}
 use Rattle.c_model.specs.Asked.{count_asked, sections_asked}
-use Rattle.c_model.specs.Going.{after_answer}
+use Rattle.c_model.specs.AfterEvents.{after_answer}
 use Rattle.c_model.specs.Step.{items_from_next, settled_task, silent, step_at}
 use Rattle.c_model.specs.Task.{Item, Moment, Outcome, Task as Code}
 use Rattle.c_model.specs.Task.Item.{Acquire, Forked, Sync, TestLock}
@@ -30,10 +30,10 @@ use Rattle.omp_model.specs.State.{Run, Task, Thread, World, no_task, pooled_at, 
 use Rattle.omp_model.specs.Members.{code_of, current, current_region, moment_of, view_of}
 use Rattle.omp_model.proofs.Arrivals.{IsInTask}
 use Rattle.omp_model.proofs.Alike.{AlikeWorld}
-use Rattle.omp_model.specs.Changes.{gone_past, gone_to, sharing}
+use Rattle.omp_model.specs.Changes.{with_masked_skipped, gone_to, with_taken_share}
 use Rattle.omp_model.specs.Conditions.{AreOrderly}
 use Rattle.omp_model.specs.Gates.{arrival}
-use Rattle.omp_model.specs.Made.{IsMadeWorld}
+use Rattle.omp_model.specs.MadeWorld.{IsMadeWorld}
 use Rattle.omp_model.specs.Silent.{answer_to, answered, chunk_dealt, fits_loop, fitting_chunk, fitting_section, items_asking, section_dealt, share_of_chunk, share_of_section, share_taken, silence_of, silent_step}
 use Rattle.omp_model.specs.Words.{stored}
 use Rattle.omp_model.proofs.AlikeWorlds.{alike-gone as world-gone, alike-region as world-region, alike-same as world-same, alike-stored as world-stored, alike-then as world-then, alike-thread as world-thread, same-head, taken-stored, team-asks}
@@ -132,7 +132,7 @@ none-settled : (view : View) (code : Code) → code.todo ≡ [] → (settled_tas
 unfolding items_from_next
 none-settled view code none = ap (items_from_next view) none
 
-pub alike-past : (W : World) (t : ℕ) → AreCodes W → Alike W (gone_past W t)
+pub alike-past : (W : World) (t : ℕ) → AreCodes W → Alike W (with_masked_skipped W t)
 alike-past W t codes =
     let k = current W t in
     let view = view_of W t in
@@ -175,9 +175,9 @@ alike-stored W place word codes =
     alike-coded W (stored W place word) (world-stored W place word) codes (code-stored W place word) (λ u. inl (taken-stored W place word u))
 
 -- a share that is taken
-alike-sharing : (W : World) (t : ℕ) (share : Option Share) → AreCodes W → MayTake (sharing W t share) t share → Alike W (sharing W t share)
+alike-sharing : (W : World) (t : ℕ) (share : Option Share) → AreCodes W → MayTake (with_taken_share W t share) t share → Alike W (with_taken_share W t share)
 alike-sharing W t share codes may =
-    let after = sharing W t share in
+    let after = with_taken_share W t share in
     let thread : Thread = record (thread_at W t) { taken = share } in
     alike-coded W after (world-thread W t thread (record { stage = refl; stack = refl; invited = refl; undeferred = refl })) codes (λ k. refl)
     (λ u. at-set (λ (x : Thread). (x.taken ≡ (thread_at W u).taken) ⊎ MayTake after u x.taken) unmade W.threads t u thread (inl refl)
@@ -276,9 +276,9 @@ module _ (run : Run) (W : World) (t : ℕ) (returns : HasReturnsOutside run.prog
         })
 
     -- what is taken then
-    takes : (one : Share) → is_lock what ≡ false → Fits one (opens_at W k) → TakesShare (sharing told t share) t one
+    takes : (one : Share) → is_lock what ≡ false → Fits one (opens_at W k) → TakesShare (with_taken_share told t share) t one
     takes one free fits =
-        let after = sharing told t share in
+        let after = with_taken_share told t share in
         let thread : Thread = record (thread_at W t) { taken = share } in
         let same : current after t ≡ k = ap (λ stack. slice_index_or stack 0 0) (read-same (λ (x : Thread). x.stack) unmade W.threads t t thread refl) in
         record {
@@ -295,23 +295,23 @@ module _ (run : Run) (W : World) (t : ℕ) (returns : HasReturnsOutside run.prog
         }
 
   may-take : (what : Ask) (tree : Tree) (is : silent run.program (view_of W t) (moment_of W t) ≡ Asks what tree) →
-      MayTake (sharing (told what tree is) t (share what tree is)) t (share what tree is)
+      MayTake (with_taken_share (told what tree is) t (share what tree is)) t (share what tree is)
   may-take ask.Chunk tree is =
       let found = asks-chunk run.program (view_of W t) (moment_of W t) tree (codes.orderly k) is in
       let count = count_asked (items_asking W t) in
-      chunk-fits (sharing (told ask.Chunk tree is) t (share ask.Chunk tree is)) t count (chunk_dealt W t)
+      chunk-fits (with_taken_share (told ask.Chunk tree is) t (share ask.Chunk tree is)) t count (chunk_dealt W t)
       (λ start size within. takes ask.Chunk tree is (Chunk start size) refl (record { whole = count; older = found.0; are = found.1; within = within }))
   may-take ask.Section tree is =
       let found = asks-section run.program (view_of W t) (moment_of W t) tree (codes.orderly k) is in
       let count = sections_asked (items_asking W t) in
-      section-fits (sharing (told ask.Section tree is) t (share ask.Section tree is)) t count tree (section_dealt W t)
+      section-fits (with_taken_share (told ask.Section tree is) t (share ask.Section tree is)) t count tree (section_dealt W t)
       (λ codeptr. takes ask.Section tree is (Section codeptr) refl (record { whole = count; older = found.0; are = found.1 }))
   may-take (ask.LockFree id) tree is = tt
 
   alike-answered : (what : Ask) (tree : Tree) → silent run.program (view_of W t) (moment_of W t) ≡ Asks what tree → Alike W (answered W t what tree)
   alike-answered what tree is =
       let first = told what tree is in
-      let next = sharing first t (share what tree is) in
+      let next = with_taken_share first t (share what tree is) in
       let after = answered W t what tree in
       let heard = alike-told what tree is in
       let shared = alike-sharing first t (share what tree is) heard.codes (may-take what tree is) in

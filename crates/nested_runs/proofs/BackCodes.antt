@@ -12,7 +12,7 @@ use Rattle.omp_model.specs.declared.event.Event.{Event}
 use Rattle.omp_model.specs.declared.event.Event.TheVariants.{TaskCreate, TaskEnd}
 use Rattle.omp_model.specs.State.{Run, State, World, first, first_world, pending_at, pooled_at, task_at}
 use Rattle.omp_model.specs.Conditions.{IsOrderly, PendingOrderly}
-use Rattle.omp_model.specs.Made.{IsMadeState, MadePending}
+use Rattle.omp_model.specs.MadeWorld.{IsMadeState, MadePending}
 use Rattle.omp_model.proofs.Touching.{Returns, come_to, pooled_back}
 use Rattle.omp_model.proofs.MadeRuns.{first-made}
 use Rattle.omp_model.proofs.OrderlyRuns.{orderly-after}

@@ -17,7 +17,7 @@ use Rattle.omp_model.specs.declared.parts.RegionHead.{RegionHead}
 use Rattle.omp_model.specs.State.{Run, Thread, World, first, first_world, pooled_at, region_at, task_at, thread_at}
 use Rattle.omp_model.specs.Conditions.{has_started}
 use Rattle.omp_model.specs.Gates.{all_left}
-use Rattle.omp_model.specs.Made.{IsTask}
+use Rattle.omp_model.specs.MadeWorld.{IsTask}
 use Rattle.omp_model.specs.Members.{member_index, region_of}
 use Rattle.omp_model.proofs.Touching.{head_back, is_summoned, pooled_back, thread_back}
 use Rattle.nested_runs.proofs.Known.{HasGone, IsLeaving, IsSeated, TellsMembers, TellsRegion, has_left_region, task_of_member}

@@ -17,10 +17,10 @@ use Rattle.omp_model.specs.declared.event.Event.{Event}
 use Rattle.omp_model.specs.declared.event.Event.TheVariants.{MemberEnd, ParallelBegin, ParallelEnd, TaskCreate, TaskEnd, ThreadEnd}
 use Rattle.omp_model.specs.declared.event.Share.{Share}
 use Rattle.omp_model.specs.State.{Run, Thread, World, pooled_at, region_at, task_at, thread_at}
-use Rattle.omp_model.specs.Changes.{made, summoned}
+use Rattle.omp_model.specs.Changes.{stage_once_made, with_invitation}
 use Rattle.omp_model.specs.Members.{current, current_region, is_outermost, member_index, region_of}
 use Rattle.omp_model.specs.Conditions.{IsUnderWay}
-use Rattle.omp_model.specs.Made.{IsRegion, IsTaskOf}
+use Rattle.omp_model.specs.MadeWorld.{IsRegion, IsTaskOf}
 use Rattle.omp_model.proofs.Touching.{Returns, forked_back, head_back, is_summoned, pooled_back, thread_back}
 use Rattle.omp_model.proofs.MadeEvents.{current-below}
 use Rattle.nested_runs.proofs.Recorded.{Inside}
@@ -291,8 +291,8 @@ module _ (run : Run) (W after : World) (I J : Inside) (past : List EventRecord) 
     summons : (u : ℕ) → is_summoned W t r u ≡ true → HasErrand u
     summons u is =
         let may = joins u is in
-        let now : thread_at after u ≡ summoned r (thread_at W u) = back.returns.thread u
-        ∙ ap (λ b. if b then summoned r (thread_at W u) else thread_at W u) is in
+        let now : thread_at after u ≡ with_invitation r (thread_at W u) = back.returns.thread u
+        ∙ ap (λ b. if b then with_invitation r (thread_at W u) else thread_at W u) is in
         let same = same-current (ParallelBegin r requested codeptr) back u in
         let stack = same-stack (ParallelBegin r requested codeptr) back u in
         let grown = grown-back W after t (ParallelBegin r requested codeptr) back.returns in
@@ -361,7 +361,7 @@ module _ (run : Run) (W after : World) (I J : Inside) (past : List EventRecord) 
   back-thread (ParallelBegin r requested codeptr) back u =
       elim (cases_Bool (is_summoned W t r u)) [
         | inl is ↦ inr (summons r requested codeptr back u is)
-        | inr apart ↦ let same = ap (λ b. if b then summoned r (thread_at W u) else thread_at W u) apart in
+        | inr apart ↦ let same = ap (λ b. if b then with_invitation r (thread_at W u) else thread_at W u) apart in
             inl (like-of (ParallelBegin r requested codeptr) back u (ap (λ (x : Thread). x.invited) same) (ap (λ (x : Thread). x.undeferred) same))
       ]
   back-thread (TaskCreate task true codeptr) back u =
@@ -381,11 +381,11 @@ module _ (run : Run) (W after : World) (I J : Inside) (past : List EventRecord) 
       elim (cases_Bool (is_summoned W t q v)) [
         | inl called ↦
             let busy : IsForking W t q = busy-at (ParallelBegin q requested codeptr) back in
-            let now = back.returns.thread v ∙ ap (λ b. if b then summoned q (thread_at W v) else thread_at W v) called in
+            let now = back.returns.thread v ∙ ap (λ b. if b then with_invitation q (thread_at W v) else thread_at W v) called in
             let same : q ≡ r = sym (ap (λ (x : Thread). x.invited) now) ∙ is in
             apart-currents W t u back.knows.sound.orderly busy.errand.some other (sym forking.task ∙ ap (λ p. (region_at W p).head.task) (sym same) ∙ busy.task)
         | inr apart ↦
-            let now = back.returns.thread v ∙ ap (λ b. if b then summoned q (thread_at W v) else thread_at W v) apart in
+            let now = back.returns.thread v ∙ ap (λ b. if b then with_invitation q (thread_at W v) else thread_at W v) apart in
             forking.uninvited v (sym (ap (λ (x : Thread). x.invited) now) ∙ is)
       ]
   uninvited-back (TaskCreate task true codeptr) back u r other forking v is =
@@ -401,7 +401,7 @@ module _ (run : Run) (W after : World) (I J : Inside) (past : List EventRecord) 
   stays-forking e back u other event busy = tt
 
   -- a thread that ends has no task, and one that is made hasn't begun
-  out-made : (stage : ThreadStage) → is_running (made stage) ≡ false → is_running stage ≡ false
+  out-made : (stage : ThreadStage) → is_running (stage_once_made stage) ≡ false → is_running stage ≡ false
   out-made thread_stage.Unmade out = refl
   out-made thread_stage.Made out = refl
   out-made thread_stage.Begun out = cc
@@ -417,8 +417,8 @@ module _ (run : Run) (W after : World) (I J : Inside) (past : List EventRecord) 
   idle-before (ParallelBegin r requested codeptr) back u out =
       elim (cases_Bool (is_summoned W t r u)) [
         | inl called ↦ back.knows.seats.idle u (out-made (thread_at W u).stage
-            (ap (λ b. is_running (if b then summoned r (thread_at W u) else thread_at W u).stage) (sym called) ∙ out))
-        | inr apart ↦ back.knows.seats.idle u (ap (λ b. is_running (if b then summoned r (thread_at W u) else thread_at W u).stage) (sym apart) ∙ out)
+            (ap (λ b. is_running (if b then with_invitation r (thread_at W u) else thread_at W u).stage) (sym called) ∙ out))
+        | inr apart ↦ back.knows.seats.idle u (ap (λ b. is_running (if b then with_invitation r (thread_at W u) else thread_at W u).stage) (sym apart) ∙ out)
       ]
   idle-before (TaskCreate task true codeptr) back u out =
       elim (cases_Bool (u == t)) [

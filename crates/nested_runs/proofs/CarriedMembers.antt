@@ -8,7 +8,7 @@ use Rattle.task_pool.specs.declared.task.Condition.TheVariants as condition
 use Rattle.omp_model.specs.State.{Run, World, pooled_at, region_at, task_at}
 use Rattle.omp_model.specs.Conditions.{has_started}
 use Rattle.omp_model.specs.Gates.{all_left}
-use Rattle.omp_model.specs.Made.{IsTask}
+use Rattle.omp_model.specs.MadeWorld.{IsTask}
 use Rattle.omp_model.specs.Members.{member_index, region_of}
 use Rattle.trace_check.specs.Before.{Join, has_left, joins_of}
 use Rattle.nested_runs.proofs.Known.{HasGone, IsJoin, IsMemberTask, IsSeated, TellsRegion, has_left_region, is_some_task, task_of_member}

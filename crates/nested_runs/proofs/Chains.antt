@@ -7,7 +7,7 @@ use Rattle.omp_model.specs.declared.limits.TheConstants.{IMPLICIT_REGION}
 use Rattle.omp_model.specs.State.{World, pooled_at, region_at, task_at, thread_at}
 use Rattle.omp_model.specs.Members.{current, is_outermost, region_of}
 use Rattle.omp_model.specs.Conditions.{AreOrderly, Distinct, IsUnderWay, Lacks}
-use Rattle.omp_model.specs.Made.{IsMadeWorld, IsRegion, IsTask, IsTaskOf}
+use Rattle.omp_model.specs.MadeWorld.{IsMadeWorld, IsRegion, IsTask, IsTaskOf}
 use Rattle.omp_model.proofs.MadeEvents.{first-of}
 use Rattle.nested_runs.proofs.Standing.{stand_at}
 use Rattle.nested_runs.proofs.Standing.Stand.{AtFork}

@@ -12,7 +12,7 @@ use Rattle.c_model.specs.declared.question.Answer.{Answer}
 use Rattle.c_model.specs.declared.view.View.{View}
 use Rattle.c_model.specs.Begin.{explicit_task, main_task, member_task}
 use Rattle.c_model.specs.Formed.{IsProgramFormed}
-use Rattle.c_model.specs.Going.{after_answer, after_event}
+use Rattle.c_model.specs.AfterEvents.{after_answer, after_event}
 use Rattle.c_model.specs.Step.{settled_task, silent}
 use Rattle.c_model.specs.Task.{Item, Moment, Task as Code}
 use Rattle.c_model.specs.Task.Item.{Forked, Sync}

@@ -25,7 +25,7 @@ use Rattle.omp_model.specs.State.{Run, World, pooled_at, thread_at}
 use Rattle.omp_model.specs.Members.{code_of, current, current_region, moment_of, region_of, view_of}
 use Rattle.omp_model.specs.Conditions.{AreOrderly, IsReady}
 use Rattle.omp_model.specs.Gates.{held_tasks, next_task}
-use Rattle.omp_model.specs.Made.{IsMadeWorld, IsTask}
+use Rattle.omp_model.specs.MadeWorld.{IsMadeWorld, IsTask}
 use Rattle.omp_model.proofs.Arriving.{Begins, IsOver, IsWaiting, Ready, Reached, Undeferred, ready-within}
 use Rattle.omp_model.proofs.MadeEvents.{Found, current-below, found-last}
 use Rattle.nested_runs.proofs.Coming.{Comes, ComesToTask}

@@ -15,7 +15,7 @@ use Rattle.c_model.specs.declared.point.Work.{Work}
 use Rattle.c_model.specs.declared.point.Work.TheVariants as work
 use Rattle.c_model.specs.declared.question.Answer.TheVariants as answer
 use Rattle.c_model.specs.declared.view.View.{View}
-use Rattle.c_model.specs.Going.{answered_at}
+use Rattle.c_model.specs.AfterEvents.{answered_at}
 use Rattle.c_model.specs.Occurring.{IsFirstStage, IsOfItem}
 use Rattle.c_model.specs.Program.{place_of}
 use Rattle.c_model.specs.Step.{items_from_next, settled_moment, silent, step_at}
@@ -39,7 +39,7 @@ use Rattle.omp_model.specs.declared.event.Halt.TheVariants.{Trap}
 use Rattle.omp_model.specs.State.{World, task_at}
 use Rattle.omp_model.specs.Members.{code_of, current, is_explicit_task, moment_of, view_of}
 use Rattle.omp_model.specs.Gates.{all_left, arrival_at_sync, arrival_in, comes_if, is_barrier, is_owned, is_owned_by, is_owned_lock, may_end, next_task, starts_if}
-use Rattle.omp_model.specs.Going.{barrier_met, event_of_point, fault_of_meeting, fault_of_point, lock_fault, meeting_at, meeting_fault, sync_fault, told, trap_if, work_met}
+use Rattle.omp_model.specs.EventEffects.{barrier_met, event_of_point, fault_of_meeting, fault_of_point, lock_fault, meeting_at, meeting_fault, sync_fault, told, trap_if, work_met}
 use Rattle.c_model.specs.Upcoming.{is_in_exclusive}
 use Rattle.nested_runs.proofs.Coming.{HasLock, IsPlain, SyncsAt, Tells}
 
@@ -110,32 +110,32 @@ form-gate W t (point.Sync codeptr which at) item is none = form-sync W t codeptr
 form-gate W t (point.MutexAcquired codeptr id which) item is none = absurd (form-acquired codeptr id which item is none)
 form-gate W t other item is none = tt
 
-came : (b : Bool) → comes_if b ≡ arrival.Comes → b ≡ true
+came : (b : Bool) → comes_if b ≡ arrival.CodeEvent → b ≡ true
 came true is = refl
 came false is = absurd (cc)
 
-came-free : (b : Bool) → comes_if (not b) ≡ arrival.Comes → b ≡ false
+came-free : (b : Bool) → comes_if (not b) ≡ arrival.CodeEvent → b ≡ false
 came-free true is = absurd (cc)
 came-free false is = refl
 
-came-tested : (b : Bool) → (if b then arrival.Steps else arrival.Comes) ≡ arrival.Comes → b ≡ false
+came-tested : (b : Bool) → (if b then arrival.Steps else arrival.CodeEvent) ≡ arrival.CodeEvent → b ≡ false
 came-tested true is = absurd (cc)
 came-tested false is = refl
 
-started-none : (W : World) (t : ℕ) (next : Option ℕ) → starts_if W t next ≡ arrival.Comes → ⊥
+started-none : (W : World) (t : ℕ) (next : Option ℕ) → starts_if W t next ≡ arrival.CodeEvent → ⊥
 started-none W t None is = cc
 started-none W t (Some task) is = cc
 
-came-waiting : (W : World) (t : ℕ) (b : Bool) → (if b then arrival.Comes else starts_if W t (next_task W t)) ≡ arrival.Comes → b ≡ true
+came-waiting : (W : World) (t : ℕ) (b : Bool) → (if b then arrival.CodeEvent else starts_if W t (next_task W t)) ≡ arrival.CodeEvent → b ≡ true
 came-waiting W t true is = refl
 came-waiting W t false is = absurd (started-none W t (next_task W t) is)
 
-sync-gate : (W : World) (t : ℕ) (which : SyncKind) (at : SyncStage) → arrival_at_sync W t which at ≡ arrival.Comes → SyncGate W t which at
+sync-gate : (W : World) (t : ℕ) (which : SyncKind) (at : SyncStage) → arrival_at_sync W t which at ≡ arrival.CodeEvent → SyncGate W t which at
 sync-gate W t which stage.WaitEnd is = came-waiting W t (may_end W t which) is
 sync-gate W t which other is = tt
 
 gate-at : (program : TreeView) (view : View) (now : Moment) (W : World) (t : ℕ) (what : Point) (tree : Tree) (items : List Item)
-    → arrival_in W t (current W t) (upcoming_among items) ≡ arrival.Comes → step_at (told_items items) program view now ≡ Occurs what tree → Gate W t what
+    → arrival_in W t (current W t) (upcoming_among items) ≡ arrival.CodeEvent → step_at (told_items items) program view now ≡ Occurs what tree → Gate W t what
 gate-at program view now W t what tree [] comes is = absurd (cc)
 gate-at program view now W t what tree (Forked construct ∷ items) comes is =
     let same : point.ParallelEnd (place_of construct) ≡ what = cc in
@@ -153,7 +153,7 @@ gate-at program view now W t what tree (item ∷ items) comes is =
     form-gate W t what item (event_is_of_item item (here_at program view now items) what tree is) refl
 
 pub gate : (program : TreeView) (W : World) (t : ℕ) (what : Point) (tree : Tree)
-    → arrival_in W t (current W t) (upcoming_of (view_of W t) (code_of W t)) ≡ arrival.Comes
+    → arrival_in W t (current W t) (upcoming_of (view_of W t) (code_of W t)) ≡ arrival.CodeEvent
     → silent program (view_of W t) (told W t) ≡ Occurs what tree → Gate W t what
 gate program W t what tree comes is =
     gate-at program (view_of W t) (told W t) W t what tree (items_from_next (view_of W t) (code_of W t).todo) comes (told-first program W t what tree is)

@@ -7,7 +7,7 @@ use Rattle.c_model.specs.declared.point.Point.TheVariants as point
 use Rattle.c_model.specs.declared.point.Work.{Work}
 use Rattle.c_model.specs.declared.point.Work.TheVariants as work
 use Rattle.c_model.specs.declared.question.Answer.TheVariants as answer
-use Rattle.c_model.specs.Going.{after_event}
+use Rattle.c_model.specs.AfterEvents.{after_event}
 use Rattle.c_model.specs.Step.{silent}
 use Rattle.c_model.specs.Task.{Outcome}
 use Rattle.c_model.specs.Task.Outcome.{Asks, Ends, Limits, Occurs, StepsTo, Traps}
@@ -21,8 +21,8 @@ use Rattle.omp_model.specs.declared.event.Halt.{Halt}
 use Rattle.omp_model.specs.State.{Run, World}
 use Rattle.omp_model.specs.Members.{current, moment_of, view_of}
 use Rattle.omp_model.specs.Conditions.{AreOrderly}
-use Rattle.omp_model.specs.Going.{Happens, effect_of_point, event_of_point, executes_point, fault_of_point, going_by, going_in_code, past_point, told, unless}
-use Rattle.omp_model.specs.Made.{IsMadeWorld}
+use Rattle.omp_model.specs.EventEffects.{Happens, effect_of_point, event_of_point, executes_point, fault_of_point, going_by, go_of_code, past_point, told, unless}
+use Rattle.omp_model.specs.MadeWorld.{IsMadeWorld}
 use Rattle.omp_model.proofs.Arriving.{Arrives, IsAtCode, arrives}
 use Rattle.omp_model.proofs.MadeEvents.{current-below}
 use Rattle.omp_model.proofs.Turning.{Beside, GoOf, OfCode}
@@ -96,8 +96,8 @@ module _ (run : Run) (W : World) (t : ℕ) (returns : HasReturnsOutside run.prog
   by-outcome (Traps trap) e after is happens = absurd (cc)
   by-outcome (Limits limit) e after is happens = absurd (cc)
 
-  comes-in-code : (e : Event) (after : World) → going_in_code run W t ≡ Happens e after → Comes W t e
-  unfolding going_in_code
+  comes-in-code : (e : Event) (after : World) → go_of_code run W t ≡ Happens e after → Comes W t e
+  unfolding go_of_code
   comes-in-code e after happens = by-outcome (silent run.program (view_of W t) (told W t)) e after refl happens
 
 pub comes : (run : Run) (W after : World) (t : ℕ) (e : Event) → HasReturnsOutside run.program → AreCodes W → IsMadeWorld W → AreOrderly W → GoOf run W t e after

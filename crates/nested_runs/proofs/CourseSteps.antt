@@ -34,14 +34,14 @@ use Rattle.c_model.specs.Cells.{Bound, cell_at, entry_of, with_cells, with_decla
 use Rattle.c_model.specs.Value.{all_values, cell_of, is_zero}
 use Rattle.c_model.specs.Calls.{begin_call, begin_lock_call, begin_return_of, begin_right, bound_in, ends_test, enters, open_call, returns_to, value_items}
 use Rattle.c_model.specs.Clauses.{condition_of, construct_statement, has_nowait, requested_threads}
-use Rattle.c_model.specs.Coming.{binds, bound_of, goes_on, goes_on_with, scope_of, sets, value_here, with_result}
+use Rattle.c_model.specs.StepOutcomes.{binds, bound_of, goes_on, goes_on_with, scope_of, sets, value_here, with_result}
 use Rattle.c_model.specs.Constructs.{begin_critical, begin_loop, begin_masked, begin_parallel, begin_sections, begin_single, begin_task, iterations_from, reduction_result, value_or}
 use Rattle.c_model.specs.Copies.{makes_cells, with_own_cells}
-use Rattle.c_model.specs.Going.{items_after, next_stage, tree_at_event, work_items}
+use Rattle.c_model.specs.AfterEvents.{items_after, next_stage, tree_at_event, work_items}
 use Rattle.c_model.specs.Loops.{loop_of}
 use Rattle.c_model.specs.Statements.{assigns, begin_local_set, begin_set_to_call, begin_set_to_value, branch_taken, declares, makes_first_step, makes_step, new_number, setting_of, test_for, test_value}
 use Rattle.c_model.specs.Step.{begin_construct, begin_inside, begin_standalone, begin_statement, step_at, step_of}
-use Rattle.c_model.specs.Task.{Here, Item, Moment, OpenCall, Outcome, Store, items_of_parts}
+use Rattle.c_model.specs.Task.{StepStart, Item, Moment, OpenCall, Outcome, Store, items_of_parts}
 use Rattle.c_model.specs.Task.Item.{Start, Declare, Leave, Test, Third, Initialise, Return, FallOff, Forked, Inside, MakeCells, NextChunk, Iterations, NextSection, Combine, EndWork, EndMasked, Sync, Acquire, Release, TestLock, Tested}
 use Rattle.c_model.specs.Task.Outcome.{StepsTo, Occurs, Ends, Limits}
 use Rattle.c_brackets.specs.Orderly.{AreInOrder, HasNoReturn, IsProper, is_return, may_return}
@@ -53,7 +53,7 @@ use Rattle.nested_runs.proofs.Standing.{has_no_barrier, is_ahead, is_region_barr
 use Rattle.nested_runs.proofs.CourseItems.{AreAllowed, ahead-behind, ahead-more, ahead-returned, allowed-both, block-allowed, both-true, first-true, iterations-allowed, makes-allowed, not-returned, rest-true, stands-before, value-allowed}
 
 -- a silent step of the item
-pub record GoesAhead (here : Here) (item : Item) (next : Moment) : Type 0 where
+pub record GoesAhead (here : StepStart) (item : Item) (next : Moment) : Type 0 where
   pub ahead : is_ahead (item ∷ here.task.todo) here.task.calls ≡ true → is_ahead next.task.todo next.task.calls ≡ true
 
 -- an event of the item
@@ -65,36 +65,36 @@ pub record LeadsAlong (item : Item) (point : Point) : Type 0 where
   pub same : is_barrier_point point ≡ is_region_barrier item
   pub allowed : (executes : Bool) (names : ℕ) → is_region_barrier item ≡ false → AreAllowed (may_return item) (items_after point executes names item)
 
-unfoldable pub Walks : Here → Item → Outcome → Type 0
+unfoldable pub Walks : StepStart → Item → Outcome → Type 0
 Walks here item (StepsTo next) = GoesAhead here item next
 Walks here item (Occurs point tree) = LeadsAlong item point
 Walks here item (Ends number) = ⊥
 Walks here item other = Unit {0}
 
 -- outcomes
-walks-choice : (here : Here) (item : Item) (choice : Bool) (one other : Outcome) → Walks here item one → Walks here item other
+walks-choice : (here : StepStart) (item : Item) (choice : Bool) (one other : Outcome) → Walks here item one → Walks here item other
     → Walks here item (if choice then one else other)
 walks-choice here item true one other first second = first
 walks-choice here item false one other first second = second
 
-walks-limit : (here : Here) (item : Item) (limit : ℕ) → Walks here item (Limits limit)
+walks-limit : (here : StepStart) (item : Item) (limit : ℕ) → Walks here item (Limits limit)
 unfolding Walks
 walks-limit here item limit = tt
 
-walks-step : (here : Here) (item : Item) (next : Moment) → GoesAhead here item next → Walks here item (StepsTo next)
+walks-step : (here : StepStart) (item : Item) (next : Moment) → GoesAhead here item next → Walks here item (StepsTo next)
 unfolding Walks
 walks-step here item next goes = goes
 
-walks-unless : (here : Here) (item : Item) (choice : Bool) (limit : ℕ) (next : Moment) → GoesAhead here item next
+walks-unless : (here : StepStart) (item : Item) (choice : Bool) (limit : ℕ) (next : Moment) → GoesAhead here item next
     → Walks here item (if choice then Limits limit else StepsTo next)
 walks-unless here item choice limit next goes =
     walks-choice here item choice (Limits limit) (StepsTo next) (walks-limit here item limit) (walks-step here item next goes)
 
-walks-event : (here : Here) (item : Item) (point : Point) (tree : Tree) → LeadsAlong item point → Walks here item (Occurs point tree)
+walks-event : (here : StepStart) (item : Item) (point : Point) (tree : Tree) → LeadsAlong item point → Walks here item (Occurs point tree)
 unfolding Walks
 walks-event here item point tree leads = leads
 
-walks-result : {A : Type 0} (here : Here) (item : Item) (result : Result A ℕ) (next : A → Outcome) → ((a : A) → Walks here item (next a))
+walks-result : {A : Type 0} (here : StepStart) (item : Item) (result : Result A ℕ) (next : A → Outcome) → ((a : A) → Walks here item (next a))
     → Walks here item (with_result result next)
 unfolding Walks
 walks-result here item (Ok a) next each = each a
@@ -109,7 +109,7 @@ returned items call calls number ahead =
     (rest-true (not (is_returned_first call calls)) (is_ahead call.todo calls) kept)
 
 -- Of an item that is no region's barrier.
-module _ (here : Here) (item : Item) (plain : is_region_barrier item ≡ false) where
+module _ (here : StepStart) (item : Item) (plain : is_region_barrier item ≡ false) where
   moves : (items : List Item) (env : List Entry) (store : Store) → AreAllowed (may_return item) items
       → GoesAhead here item (record { task = record here.task { todo = items ++ here.task.todo; env = env }; store = store })
   moves items env store are = record { ahead = λ ahead. ahead-more item items here.task.todo here.task.calls plain are ahead }
@@ -256,7 +256,7 @@ again-allowed true body tree may inner outer = tt
 again-allowed false body tree may inner outer = ((refl, inner), ((refl, outer), tt))
 
 -- constructs
-module _ (here : Here) (construct : Tree) (is : tree_at_event (Start construct) ≡ construct) (free : HasNoReturn construct) where
+module _ (here : StepStart) (construct : Tree) (is : tree_at_event (Start construct) ≡ construct) (free : HasNoReturn construct) where
   statement-is-free : IsFree (construct_statement (tree_at_event (Start construct)))
   statement-is-free = subst (λ (tree : Tree). IsFree (construct_statement tree)) (sym is) (statement_free construct free)
 
@@ -300,20 +300,20 @@ module _ (here : Here) (construct : Tree) (is : tree_at_event (Start construct) 
   walks-construct directive.Critical = walks-critical
   walks-construct directive.Task = walks-task
 
-walks-standalone : (which : Standalone) (here : Here) (tree : Tree) → Walks here (Start tree) (begin_standalone which tree)
+walks-standalone : (which : Standalone) (here : StepStart) (tree : Tree) → Walks here (Start tree) (begin_standalone which tree)
 walks-standalone standalone.Barrier here tree =
     walks-event here (Start tree) _ tree (record { same = refl; allowed = λ executes names none. ((refl, λ has. never has), tt) })
 walks-standalone standalone.Taskwait here tree =
     walks-event here (Start tree) _ tree (record { same = refl; allowed = λ executes names none. ((refl, λ has. never has), tt) })
 
-walks-lock : (which : LockCall) (here : Here) (tree : Tree) → Walks here (Start tree) (begin_lock_call which here tree)
+walks-lock : (which : LockCall) (here : StepStart) (tree : Tree) → Walks here (Start tree) (begin_lock_call which here tree)
 walks-lock lock.Init here tree = walks-event here (Start tree) _ tree (record { same = refl; allowed = λ executes names none. tt })
 walks-lock lock.Destroy here tree = walks-event here (Start tree) _ tree (record { same = refl; allowed = λ executes names none. tt })
 walks-lock lock.Set here tree =
     walks-event here (Start tree) _ tree (record { same = refl; allowed = λ executes names none. ((refl, λ has. never has), tt) })
 walks-lock lock.Unset here tree = walks-event here (Start tree) _ tree (record { same = refl; allowed = λ executes names none. tt })
 
-walks-statement : (here : Here) (tree : Tree) → IsProper (Start tree) → Walks here (Start tree) (begin_statement (kind_of tree) here tree)
+walks-statement : (here : StepStart) (tree : Tree) → IsProper (Start tree) → Walks here (Start tree) (begin_statement (kind_of tree) here tree)
 unfolding ReturnsOutside has_return
 walks-statement here (Node node.Block spot name number text children) proper =
     let tree = Node node.Block spot name number text children in
@@ -360,14 +360,14 @@ walks-statement here (Node kind spot name number text children) proper =
     walks-on here (Start (Node kind spot name number text children)) refl [] tt
 
 -- the parts of a plain loop
-walks-test : (here : Here) (tree : Tree) (stay : ℕ) → Walks here (Test tree stay) (test_for here tree stay)
+walks-test : (here : StepStart) (tree : Tree) (stay : ℕ) → Walks here (Test tree stay) (test_for here tree stay)
 walks-test here tree stay =
     walks-result here (Test tree stay) (test_value here tree) _ (λ number.
     walks-choice here (Test tree stay) (is_zero number) (goes_on_with here stay []) (goes_on here (Start (child_at tree 3) ∷ Third tree stay ∷ []))
     (walks-with here (Test tree stay) refl stay [] tt)
     (walks-on here (Test tree stay) refl (Start (child_at tree 3) ∷ Third tree stay ∷ []) ((refl, λ has. has), ((refl, λ has. has), tt))))
 
-walks-inside : (here : Here) (construct : Tree) → IsProper (Inside construct) → Walks here (Inside construct) (begin_inside (kind_of construct) here construct)
+walks-inside : (here : StepStart) (construct : Tree) → IsProper (Inside construct) → Walks here (Inside construct) (begin_inside (kind_of construct) here construct)
 walks-inside here (Node (node.Construct directive.ParallelFor) spot name number text children) proper =
     let tree = Node (node.Construct directive.ParallelFor) spot name number text children in walks-loop here (Inside tree) refl tree refl proper
 walks-inside here (Node (node.Construct directive.ParallelSections) spot name number text children) proper =
@@ -399,7 +399,7 @@ stage-allowed may tree kind stage.WaitBegin plain = ((stage-plain tree kind stag
 stage-allowed may tree kind stage.WaitEnd plain = ((stage-plain tree kind stage.WaitEnd stage.RegionEnd plain, λ has. never has), tt)
 stage-allowed may tree kind stage.RegionEnd plain = tt
 
-pub walks-item : (item : Item) (here : Here) → IsProper item → Walks here item (step_of item here)
+pub walks-item : (item : Item) (here : StepStart) → IsProper item → Walks here item (step_of item here)
 unfolding Walks
 walks-item (Start tree) here proper = walks-statement here tree proper
 walks-item (Declare tree) here proper = walks-declares here (Declare tree) refl (kind_of tree) tree

@@ -22,9 +22,9 @@ use Rattle.c_model.specs.declared.view.View.{View}
 use Rattle.c_model.specs.Begin.{forked_construct, member_statement, member_task}
 use Rattle.c_model.specs.Clauses.{construct_statement}
 use Rattle.c_model.specs.Copies.{combines, makes_cells}
-use Rattle.c_model.specs.Going.{after_answer, after_event, answered_at, items_after, items_answered, items_of_chunk, items_of_section, items_of_test, next_stage, passed_at}
+use Rattle.c_model.specs.AfterEvents.{after_answer, after_event, answered_at, items_after, items_answered, items_of_chunk, items_of_section, items_of_test, next_stage, passed_at}
 use Rattle.c_model.specs.Program.{place_of}
-use Rattle.c_model.specs.Step.{is_masked, is_passed_over, items_from_next, settled_moment, settled_task, silent, step_at}
+use Rattle.c_model.specs.Step.{is_masked, skips_masked, items_from_next, settled_moment, settled_task, silent, step_at}
 use Rattle.c_model.specs.Task.{Item, Moment, OpenCall, SharedLoop, Task as Code}
 use Rattle.c_model.specs.Task.Item.{Forked, NextChunk, NextSection, Start, Sync, TestLock}
 use Rattle.c_model.specs.Task.Outcome.{Asks, Ends, Occurs, StepsTo}
@@ -34,7 +34,7 @@ use Rattle.c_brackets.proofs.OpenLists.{never}
 use Rattle.c_brackets.proofs.ReturnTrees.{section_free, statement_free}
 use Rattle.c_brackets.proofs.TurningTasks.{here_at, settled_is_orderly}
 use Rattle.omp_model.specs.State.{World}
-use Rattle.omp_model.specs.Going.{event_of_point, has_forked}
+use Rattle.omp_model.specs.EventEffects.{event_of_point, has_forked}
 use Rattle.nested_runs.proofs.Effects.{is_at_region_barrier, is_in_region_barrier}
 use Rattle.nested_runs.proofs.Standing.{HasCourse, ends_behind, has_begun, is_ahead, is_behind, is_region_barrier}
 use Rattle.nested_runs.proofs.CourseItems.{AreAllowed, ahead-behind, ahead-more, ahead-not-behind, allowed-both, combines-allowed, ends-more, first-true, iterations-allowed, makes-allowed, value-allowed}
@@ -98,7 +98,7 @@ settled-chosen true tree items settled calls keeps ahead = keeps (ahead-behind (
 settled-chosen false tree items settled calls keeps ahead = ahead
 
 settled-by : (view : View) (item : Item) (items settled : List Item) (calls : List OpenCall) → (is_ahead items calls ≡ true → is_ahead settled calls ≡ true)
-    → is_ahead (item ∷ items) calls ≡ true → is_ahead (if is_passed_over item view then settled else item ∷ items) calls ≡ true
+    → is_ahead (item ∷ items) calls ≡ true → is_ahead (if skips_masked item view then settled else item ∷ items) calls ≡ true
 settled-by view (Start tree) items settled calls keeps ahead =
     settled-chosen (is_masked (kind_of tree) && not (view.index == 0)) tree items settled calls keeps ahead
 settled-by view item items settled calls keeps ahead = ahead

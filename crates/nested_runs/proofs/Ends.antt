@@ -18,7 +18,7 @@ use Rattle.omp_model.specs.declared.parts.ThreadStage.TheVariants as thread_stag
 use Rattle.omp_model.specs.State.{Run, State, Thread, World, pooled_at, region_at, task_at, thread_at, unmade}
 use Rattle.omp_model.specs.Cause.{none_pending, threads_over}
 use Rattle.omp_model.specs.Gates.{is_out}
-use Rattle.omp_model.specs.Made.{IsTask}
+use Rattle.omp_model.specs.MadeWorld.{IsTask}
 use Rattle.omp_model.specs.Members.{is_explicit_task, region_of}
 use Rattle.trace_check.specs.Before.{Creation, creations, events_of, has_begun_region, has_ended as was_ended, has_ended_region, is_begin, is_complete, is_created, is_just, is_of, region_begun}
 use Rattle.trace_check.specs.Checking.{Unbroken}

@@ -7,7 +7,7 @@ use Rattle.omp_model.specs.declared.event.Event.TheVariants.{ParallelBegin, Para
 use Rattle.omp_model.specs.declared.event.Share.{Share}
 use Rattle.omp_model.specs.State.{Run, World, thread_at}
 use Rattle.omp_model.specs.Members.{current, current_region, region_of}
-use Rattle.omp_model.specs.Made.{IsMadeWorld}
+use Rattle.omp_model.specs.MadeWorld.{IsMadeWorld}
 use Rattle.omp_model.proofs.MadeEvents.{current-below}
 use Rattle.nested_runs.proofs.Recorded.{Inside}
 use Rattle.nested_runs.proofs.Shown.{opens_at}

@@ -15,7 +15,7 @@ use Rattle.omp_model.specs.declared.event.Event.TheVariants.{InitialTaskBegin, I
 use Rattle.omp_model.specs.State.{Run, Thread, World, pooled_at, region_at, task_at, thread_at}
 use Rattle.omp_model.specs.Members.{current, current_region, is_explicit_task, is_outermost, region_of}
 use Rattle.omp_model.specs.Conditions.{IsToStart}
-use Rattle.omp_model.specs.Made.{IsRegion, IsTaskOf}
+use Rattle.omp_model.specs.MadeWorld.{IsRegion, IsTaskOf}
 use Rattle.omp_model.proofs.Touching.{come_to, forked_after, is_of_code, thread_after}
 use Rattle.omp_model.proofs.MadeEvents.{current-below}
 use Rattle.nested_runs.proofs.Recorded.{Inside}

@@ -6,7 +6,7 @@ use Rattle.c_syntax.specs.language.Tree.{Tree}
 use Rattle.c_model.specs.declared.point.Point.{Point}
 use Rattle.c_model.specs.declared.question.Answer.TheVariants as answer
 use Rattle.c_model.specs.Begin.{blank_task}
-use Rattle.c_model.specs.Going.{after_event}
+use Rattle.c_model.specs.AfterEvents.{after_event}
 use Rattle.c_model.specs.Step.{silent}
 use Rattle.c_model.specs.Task.{Task as Code}
 use Rattle.c_model.specs.Task.Outcome.{Occurs}
@@ -22,7 +22,7 @@ use Rattle.omp_model.specs.declared.event.Event.{Event}
 use Rattle.omp_model.specs.State.{Run, Task, World, no_task, pooled_at, task_at}
 use Rattle.omp_model.specs.Members.{code_of, current, moment_of, view_of}
 use Rattle.omp_model.specs.Changes.{with_code}
-use Rattle.omp_model.specs.Going.{event_of_point, executes_point, told}
+use Rattle.omp_model.specs.EventEffects.{event_of_point, executes_point, told}
 use Rattle.nested_runs.proofs.Effects.{behind_after, effect_of_event, is_at_region_barrier, opens_after, stand_after}
 use Rattle.nested_runs.proofs.Shown.{opens_at}
 use Rattle.nested_runs.proofs.Standing.{HasCourse, is_behind, stand_among, stand_at}

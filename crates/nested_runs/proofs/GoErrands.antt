@@ -12,8 +12,8 @@ use Rattle.omp_model.specs.declared.event.Event.TheVariants.{Dispatch, InitialTa
 use Rattle.omp_model.specs.State.{Run, Thread, World, pooled_at, region_at, thread_at}
 use Rattle.omp_model.specs.Gates.{all_left}
 use Rattle.omp_model.specs.Members.{current, current_region, member_index, region_of}
-use Rattle.omp_model.specs.Going.{kind_of_task}
-use Rattle.omp_model.specs.Made.{IsMadeWorld}
+use Rattle.omp_model.specs.EventEffects.{kind_of_task}
+use Rattle.omp_model.specs.MadeWorld.{IsMadeWorld}
 use Rattle.omp_model.proofs.Arrivals.{IsQuiet}
 use Rattle.omp_model.proofs.Touching.{thread_after}
 use Rattle.omp_model.proofs.MadeEvents.{current-below}

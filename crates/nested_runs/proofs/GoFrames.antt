@@ -12,7 +12,7 @@ use Rattle.omp_model.specs.declared.event.Event.TheVariants.{Dispatch, InitialTa
 use Rattle.omp_model.specs.State.{Thread, World, pooled_at, region_at, task_at, thread_at}
 use Rattle.omp_model.specs.Members.{current}
 use Rattle.omp_model.specs.Conditions.{AreOrderly, IsUnderWay}
-use Rattle.omp_model.specs.Made.{IsMadeWorld, IsTaskOf}
+use Rattle.omp_model.specs.MadeWorld.{IsMadeWorld, IsTaskOf}
 use Rattle.omp_model.proofs.Touching.{come_to, head_after, is_of_code, owner_after, pooled_after, regions_after, tasks_after, thread_after}
 use Rattle.nested_runs.proofs.Coming.{Comes, ComesToTask}
 use Rattle.nested_runs.proofs.Shown.{opens_at}

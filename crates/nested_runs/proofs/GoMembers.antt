@@ -18,7 +18,7 @@ use Rattle.omp_model.specs.declared.parts.RegionHead.{RegionHead}
 use Rattle.omp_model.specs.State.{Region, Run, World, no_region, pooled_at, region_at, task_at}
 use Rattle.omp_model.specs.Conditions.{has_started}
 use Rattle.omp_model.specs.Gates.{all_left}
-use Rattle.omp_model.specs.Made.{IsTask}
+use Rattle.omp_model.specs.MadeWorld.{IsTask}
 use Rattle.omp_model.specs.Members.{member_index}
 use Rattle.omp_model.proofs.Touching.{come_to, head_after, owner_after, regions_after, tasks_after}
 use Rattle.trace_check.specs.Before.{Join, has_begun_region, has_ended_region, is_just, joins_of}

@@ -9,8 +9,8 @@ use Rattle.task_pool.specs.Tasks.{is_explicit}
 use Rattle.omp_model.specs.declared.event.Event.{Event}
 use Rattle.omp_model.specs.declared.event.Event.TheVariants.{InitialTaskBegin, MemberBegin, MemberEnd, ParallelBegin, TaskBegin, TaskCreate}
 use Rattle.omp_model.specs.State.{Run, Thread, World, pooled_at, task_at, thread_at}
-use Rattle.omp_model.specs.Going.{kind_of_task}
-use Rattle.omp_model.specs.Made.{IsTask}
+use Rattle.omp_model.specs.EventEffects.{kind_of_task}
+use Rattle.omp_model.specs.MadeWorld.{IsTask}
 use Rattle.omp_model.specs.Members.{current, current_region, is_outermost, member_index, region_of}
 use Rattle.omp_model.proofs.Touching.{tasks_after, thread_after}
 use Rattle.nested_runs.proofs.Known.{HasGone, IsBusy, IsInvited, IsLeaving, IsSeated, task_of_member}

@@ -11,8 +11,8 @@ use Rattle.omp_model.specs.declared.event.Event.TheVariants.{Dispatch, InitialTa
 use Rattle.omp_model.specs.State.{Thread, World, fresh_head, region_at, task_at, thread_at}
 use Rattle.omp_model.specs.Members.{current, current_region, is_outermost, region_of}
 use Rattle.omp_model.specs.Conditions.{AreOrderly, IsUnderWay}
-use Rattle.omp_model.specs.Going.{team_size}
-use Rattle.omp_model.specs.Made.{IsMadeWorld}
+use Rattle.omp_model.specs.EventEffects.{team_size}
+use Rattle.omp_model.specs.MadeWorld.{IsMadeWorld}
 use Rattle.omp_model.proofs.Touching.{forked_after, head_after, is_of_code, regions_after}
 use Rattle.omp_model.proofs.MadeEvents.{current-below, first-of}
 use Rattle.nested_runs.proofs.Coming.{Comes}

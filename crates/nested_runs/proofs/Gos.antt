@@ -7,8 +7,8 @@ use Rattle.c_brackets.specs.Returns.{HasReturnsOutside}
 use Rattle.omp_model.specs.declared.event.Event.{Event}
 use Rattle.omp_model.specs.State.{Run, World}
 use Rattle.omp_model.specs.Conditions.{AreOrderly}
-use Rattle.omp_model.specs.Going.{Happens, effect_of, effect_of_point, event_of_point, fault_of, fault_of_point, going_by, going_in_code, past_point, told}
-use Rattle.omp_model.specs.Made.{IsMadeWorld}
+use Rattle.omp_model.specs.EventEffects.{Happens, effect_of, effect_of_point, event_of_point, fault_of, fault_of_point, going_by, go_of_code, past_point, told}
+use Rattle.omp_model.specs.MadeWorld.{IsMadeWorld}
 use Rattle.omp_model.specs.Members.{current, view_of}
 use Rattle.omp_model.proofs.Touching.{TouchesWorld}
 use Rattle.omp_model.proofs.Arriving.{Arrives, arrives}
@@ -33,8 +33,8 @@ module _ (run : Run) (W after : World) (t : ℕ) (e : Event) (returns : HasRetur
   by-outcome some (Traps trap) occurs is world = cc
   by-outcome some (Limits limit) occurs is world = cc
 
-  in-code : 1 ≤ current W t → going_in_code run W t ≡ Happens e after → TouchesWorld W after t e → Touches W after t e
-  unfolding going_in_code
+  in-code : 1 ≤ current W t → go_of_code run W t ≡ Happens e after → TouchesWorld W after t e → Touches W after t e
+  unfolding go_of_code
   in-code some is = by-outcome some (silent run.program (view_of W t) (told W t)) refl is
 
   of-go : AreOrderly W → GoOf run W t e after → Comes W t e → TouchesWorld W after t e → Touches W after t e

@@ -18,9 +18,9 @@ use Rattle.omp_model.specs.declared.event.Event.{Event}
 use Rattle.omp_model.specs.declared.event.Event.TheVariants as event
 use Rattle.omp_model.specs.State.{Region, Task, World, no_task, pooled_at, region_at, task_at, task_with}
 use Rattle.omp_model.specs.Members.{current, member_index}
-use Rattle.omp_model.specs.Changes.{emptied, member_begun, popped, taken_up, task_made}
-use Rattle.omp_model.specs.Going.{effect_of, has_forked, member_code}
-use Rattle.omp_model.specs.Made.{IsMadeWorld, IsTask}
+use Rattle.omp_model.specs.Changes.{without_code, member_begun, without_current_task, taken_up, task_made}
+use Rattle.omp_model.specs.EventEffects.{effect_of, has_forked, member_code}
+use Rattle.omp_model.specs.MadeWorld.{IsMadeWorld, IsTask}
 use Rattle.omp_model.specs.Conditions.{AreOrderly}
 use Rattle.omp_model.proofs.Touching.{TouchesWorld, is_of_code}
 use Rattle.omp_model.proofs.Arriving.{Reached}
@@ -148,8 +148,8 @@ unfolding effect_of
 initial-end-codes W t made all codes comes =
     let e = event.InitialTaskEnd in
     let k = INITIAL_TASK in
-    let after : World = record (popped W t) { pool = with_finished W.pool k } in
-    subst (λ X. CodesBeside W X t e) (sym (finished-is (popped W t) k (current-started W t k all (sym comes.task) comes.within.some)))
+    let after : World = record (without_current_task W t) { pool = with_finished W.pool k } in
+    subst (λ X. CodesBeside W X t e) (sym (finished-is (without_current_task W t) k (current-started W t k all (sym comes.task) comes.within.some)))
     (codes-still W after t e refl refl tt codes refl (λ j. refl)
     (λ j. ap (λ (x : PoolTask). x.kind) (read-pool W k condition.Finished j made made.initial) ∙ kind-if (j == k) (pooled_at W j) condition.Finished))
 
@@ -159,15 +159,15 @@ unfolding effect_of
 member-end-codes W t r k made all codes comes =
     let e = event.MemberEnd r k in
     let one = current-task W t k made comes.task comes.within.some in
-    let after : World = emptied (record (popped W t) { pool = with_finished W.pool k }) k in
-    subst (λ X. CodesBeside W (emptied X k) t e) (sym (finished-is (popped W t) k (current-started W t k all comes.task comes.within.some)))
+    let after : World = without_code (record (without_current_task W t) { pool = with_finished W.pool k }) k in
+    subst (λ X. CodesBeside W (without_code X k) t e) (sym (finished-is (without_current_task W t) k (current-started W t k all comes.task comes.within.some)))
     (codes-emptied W after t k e refl refl tt codes refl comes.closed comes.stand (λ is. comes.behind)
     (λ j. ap (λ (x : PoolTask). x.kind) (read-pool W k condition.Finished j made one) ∙ kind-if (j == k) (pooled_at W j) condition.Finished))
 
 task-end-codes : (W : World) (t k : ℕ) → AreCodes W → ComesToTaskEnd W t k → CodesBeside W (effect_of W t (event.TaskEnd k)) t (event.TaskEnd k)
 unfolding effect_of
 task-end-codes W t k codes comes =
-    codes-emptied W (emptied (popped W t) k) t k (event.TaskEnd k) refl refl tt codes refl comes.closed comes.stand
+    codes-emptied W (without_code (without_current_task W t) k) t k (event.TaskEnd k) refl refl tt codes refl comes.closed comes.stand
     (λ is. absurd (true≢false (sym comes.explicit ∙ ap is_explicit is))) (λ j. refl)
 
 -- A member's task is made, and begins.

@@ -10,7 +10,7 @@ use Rattle.c_model.specs.declared.point.SyncStage.{SyncStage}
 use Rattle.c_model.specs.declared.point.SyncStage.TheVariants as stage
 use Rattle.c_model.specs.declared.point.Work.TheVariants as work
 use Rattle.c_model.specs.Begin.{explicit_task}
-use Rattle.c_model.specs.Going.{after_event}
+use Rattle.c_model.specs.AfterEvents.{after_event}
 use Rattle.c_model.specs.Step.{silent}
 use Rattle.c_model.specs.Task.{Task as Code}
 use Rattle.c_model.specs.Task.Outcome.{Occurs}
@@ -27,9 +27,9 @@ use Rattle.omp_model.specs.declared.event.Event.TheVariants as event
 use Rattle.omp_model.specs.State.{Region, Run, Task, World, no_task, pooled_at, task_at, task_with}
 use Rattle.omp_model.specs.Members.{current, current_index, current_region, is_member, view_of}
 use Rattle.omp_model.specs.Gates.{is_barrier}
-use Rattle.omp_model.specs.Changes.{met, passed, with_code}
-use Rattle.omp_model.specs.Going.{after_creation, after_fork, after_meeting_at, after_sync, barrier_met, effect_of_point, event_of_point, executes_point, kind_of_task, past_point, told, work_met}
-use Rattle.omp_model.specs.Made.{IsMadeWorld}
+use Rattle.omp_model.specs.Changes.{with_member_meeting, with_barrier_passed, with_code}
+use Rattle.omp_model.specs.EventEffects.{after_creation, after_fork, after_meeting_at, after_sync, barrier_met, effect_of_point, event_of_point, executes_point, kind_of_task, past_point, told, work_met}
+use Rattle.omp_model.specs.MadeWorld.{IsMadeWorld}
 use Rattle.omp_model.proofs.Touching.{TouchesWorld, is_of_code}
 use Rattle.omp_model.proofs.Gos.{current-kept}
 use Rattle.omp_model.proofs.Conditions.{pooled-added}
@@ -65,14 +65,14 @@ same-changed W regions locks = record { tasks = refl; code = λ k. refl; pool = 
 
 same-met : (W : World) (t : ℕ) (what : Meeting) → SameTasks W (after_meeting_at W t what)
 same-met W t what =
-    same-either W (met W (current_region W t) (current_index W t) what) W (is_member W t) (same-changed W _ W.locks) (same-changed W W.regions W.locks)
+    same-either W (with_member_meeting W (current_region W t) (current_index W t) what) W (is_member W t) (same-changed W _ W.locks) (same-changed W W.regions W.locks)
 
 same-synced : (W : World) (t codeptr : ℕ) (which : SyncKind) (at : SyncStage) → SameTasks W (after_sync W t codeptr which at)
 same-synced W t codeptr which stage.RegionBegin =
     let what = barrier_met codeptr which in
     same-either W (after_meeting_at W t what) W (is_barrier which) (same-met W t what) (same-changed W W.regions W.locks)
 same-synced W t codeptr which stage.WaitEnd =
-    same-either W (passed W (current_region W t) (current_index W t)) W (is_barrier which) (same-changed W _ W.locks) (same-changed W W.regions W.locks)
+    same-either W (with_barrier_passed W (current_region W t) (current_index W t)) W (is_barrier which) (same-changed W _ W.locks) (same-changed W W.regions W.locks)
 same-synced W t codeptr which other = same-changed W W.regions W.locks
 
 same-forked : (W : World) (t requested : ℕ) → SameTasks W (after_fork W t requested)

@@ -24,7 +24,7 @@ use Rattle.omp_model.specs.Cause.{none_pending}
 use Rattle.omp_model.specs.Conditions.{IsOrderly}
 use Rattle.omp_model.specs.Heard.{has_back, heard_at, heard_from, heard_outcome, is_back}
 use Rattle.omp_model.specs.Legal.{AllowsFrom, Legal, after, after_from, back_from, does, entered, may, put_from}
-use Rattle.omp_model.specs.Made.{IsMadeState}
+use Rattle.omp_model.specs.MadeWorld.{IsMadeState}
 use Rattle.omp_model.specs.Records.{record_of, records_of}
 use Rattle.omp_model.specs.Turn.{called, turn}
 use Rattle.omp_model.proofs.Later.{at-set}

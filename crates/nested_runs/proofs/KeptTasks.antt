@@ -14,7 +14,7 @@ use Rattle.omp_model.specs.declared.event.Event.TheVariants.{Dispatch, InitialTa
 use Rattle.omp_model.specs.State.{Run, World, no_task, pooled_at, task_at, thread_at}
 use Rattle.omp_model.specs.Members.{current}
 use Rattle.omp_model.specs.Conditions.{AreOrderly, IsUnderWay, has_started}
-use Rattle.omp_model.specs.Made.{IsMadeWorld}
+use Rattle.omp_model.specs.MadeWorld.{IsMadeWorld}
 use Rattle.omp_model.proofs.Touching.{come_to, is_of_code, pooled_after}
 use Rattle.omp_model.proofs.MadeEvents.{current-made, first-of}
 use Rattle.nested_runs.proofs.Coming.{Comes}

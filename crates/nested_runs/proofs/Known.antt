@@ -23,10 +23,10 @@ use Rattle.omp_model.specs.declared.event.Event.TheVariants.{MemberEnd, Parallel
 use Rattle.omp_model.specs.State.{World, pooled_at, region_at, task_at, thread_at}
 use Rattle.omp_model.specs.Members.{current, current_region, is_explicit_task, is_outermost, member_index, region_of}
 use Rattle.omp_model.specs.Gates.{all_left, is_barrier}
-use Rattle.omp_model.specs.Going.{sync_number}
+use Rattle.omp_model.specs.EventEffects.{sync_number}
 use Rattle.omp_model.specs.Calls.{mutex_number}
 use Rattle.omp_model.specs.Conditions.{has_started}
-use Rattle.omp_model.specs.Made.{IsTask}
+use Rattle.omp_model.specs.MadeWorld.{IsTask}
 use Rattle.omp_model.proofs.Alike.{what_met}
 use Rattle.trace_check.specs.Before.{Creation, Join, creations, events_of, greatest_region, greatest_task, has_begun_region, has_ended, has_ended_region, has_left, has_started as was_started, holder, is_complete, is_created, joins_of, latest, opened, waits_of}
 use Rattle.trace_check.specs.Rules.{asks_for}

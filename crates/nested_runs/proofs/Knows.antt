@@ -6,7 +6,7 @@ use Rattle.c_brackets.specs.Returns.{HasReturnsOutside}
 use Rattle.omp_model.specs.declared.event.Event.{Event}
 use Rattle.omp_model.specs.State.{Run, World, thread_at}
 use Rattle.omp_model.specs.Conditions.{AreOrderly, EventOrderly}
-use Rattle.omp_model.specs.Made.{HasOccurred, IsMadeWorld}
+use Rattle.omp_model.specs.MadeWorld.{HasOccurred, IsMadeWorld}
 use Rattle.omp_model.proofs.Touching.{Returns}
 use Rattle.trace_check.specs.Checking.{Unbroken}
 use Rattle.nested_runs.proofs.Recorded.{Enters, Inside, Same}

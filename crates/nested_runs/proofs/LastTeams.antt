@@ -25,7 +25,7 @@ use Rattle.omp_model.specs.declared.event.Event.TheVariants.{Dispatch, InitialTa
 use Rattle.omp_model.specs.State.{Run, World, pooled_at, region_at, task_at}
 use Rattle.omp_model.specs.Members.{current, current_index, current_region, current_team, is_explicit_task, is_member}
 use Rattle.omp_model.specs.Gates.{is_barrier, may_end}
-use Rattle.omp_model.specs.Going.{barrier_met, meeting_at}
+use Rattle.omp_model.specs.EventEffects.{barrier_met, meeting_at}
 use Rattle.omp_model.proofs.Touching.{AtBarrierElse, Meets, MeetsWork, SameTeam, is_of_code}
 use Rattle.nested_runs.proofs.Coming.{Comes, ComesInCode}
 use Rattle.nested_runs.proofs.Effects.{behind_after, is_at_region_barrier, is_in_region_barrier}

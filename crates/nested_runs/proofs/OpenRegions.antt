@@ -2,7 +2,7 @@
 use Rattle.std.proofs.Common.{ℕ, ◌≡◌, true, length, sym, ap, ◌∙◌, subst, arith}
 use Rattle.omp_model.specs.State.{World, region_at, task_at, thread_at}
 use Rattle.omp_model.specs.Members.{is_outermost}
-use Rattle.omp_model.specs.Made.{IsMadeWorld, IsRegion}
+use Rattle.omp_model.specs.MadeWorld.{IsMadeWorld, IsRegion}
 use Rattle.nested_runs.proofs.Standing.{stand_at}
 use Rattle.nested_runs.proofs.Standing.Stand.{AtFork}
 use Rattle.nested_runs.proofs.Known.{HasForked, HoldsRegion, IsOpenRegion, stands_on}

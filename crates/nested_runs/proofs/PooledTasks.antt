@@ -12,7 +12,7 @@ use Rattle.omp_model.specs.declared.event.Event.TheVariants.{InitialTaskBegin, I
 use Rattle.omp_model.specs.declared.limits.TheConstants.{INITIAL_TASK}
 use Rattle.omp_model.specs.State.{Thread, World, no_task, pooled_at, task_at, thread_at}
 use Rattle.omp_model.specs.Conditions.{AreOrderly, IsUnderWay, has_started}
-use Rattle.omp_model.specs.Made.{IsMadeWorld, IsTaskOf}
+use Rattle.omp_model.specs.MadeWorld.{IsMadeWorld, IsTaskOf}
 use Rattle.omp_model.specs.Members.{current}
 use Rattle.omp_model.proofs.Touching.{come_to, is_summoned, pooled_after, pooled_back, tasks_after, thread_back}
 use Rattle.omp_model.proofs.MadeWords.{pool-at}

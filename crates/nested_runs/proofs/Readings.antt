@@ -10,7 +10,7 @@ use Rattle.omp_model.specs.declared.event.Event.TheVariants.{InitialTaskBegin, I
 use Rattle.omp_model.specs.State.{World, region_at}
 use Rattle.omp_model.specs.Members.{current, current_region, member_index}
 use Rattle.omp_model.specs.Gates.{is_barrier}
-use Rattle.omp_model.specs.Going.{sync_number}
+use Rattle.omp_model.specs.EventEffects.{sync_number}
 use Rattle.omp_model.specs.Calls.{work_number}
 use Rattle.trace_check.specs.declared.bracket.Bracket.TheVariants.{Parallel, Implicit, Explicit, Worksharing, Masking, Syncing, Waiting}
 use Rattle.trace_check.specs.declared.change.Change.{Change}

@@ -14,9 +14,9 @@ use Rattle.omp_model.specs.declared.event.Event.TheVariants.{InitialTaskBegin, M
 use Rattle.omp_model.specs.declared.limits.TheConstants.{IMPLICIT_REGION, INITIAL_TASK}
 use Rattle.omp_model.specs.declared.parts.RegionHead.{RegionHead}
 use Rattle.omp_model.specs.State.{Run, World, fresh_head, fresh_team, pooled_at, region_at, task_at, thread_at}
-use Rattle.omp_model.specs.Made.{IsRegion}
+use Rattle.omp_model.specs.MadeWorld.{IsRegion}
 use Rattle.omp_model.specs.Members.{current, current_index, current_region, is_explicit_task, is_outermost, member_index, region_of}
-use Rattle.omp_model.specs.Going.{team_size}
+use Rattle.omp_model.specs.EventEffects.{team_size}
 use Rattle.omp_model.proofs.Touching.{head_after, head_back, regions_after}
 use Rattle.nested_runs.proofs.Coming.{Comes}
 use Rattle.nested_runs.proofs.Known.{task_of_member}

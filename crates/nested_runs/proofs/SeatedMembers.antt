@@ -7,7 +7,7 @@ use Rattle.omp_model.specs.declared.limits.TheConstants.{IMPLICIT_REGION}
 use Rattle.omp_model.specs.State.{Run, World, pooled_at, region_at, thread_at}
 use Rattle.omp_model.specs.Members.{current, current_index, current_region, current_team, is_explicit_task, member_index, region_of}
 use Rattle.omp_model.specs.Conditions.{IsUnderWay}
-use Rattle.omp_model.specs.Made.{IsTaskOf}
+use Rattle.omp_model.specs.MadeWorld.{IsTaskOf}
 use Rattle.omp_model.proofs.MadeEvents.{first-of}
 use Rattle.ompt_calls.specs.declared.event.EventRecord.{EventRecord}
 use Rattle.std.specs.Prelude.{List}

@@ -4,7 +4,7 @@ use Rattle.c_brackets.specs.Opened.{Open, open_task}
 use Rattle.c_brackets.specs.Opened.Open.{Forks, Works, Masks, Syncs, Awaits}
 use Rattle.omp_model.specs.State.{World, task_at}
 use Rattle.omp_model.specs.Members.{is_explicit_task, region_of}
-use Rattle.omp_model.specs.Going.{sync_number}
+use Rattle.omp_model.specs.EventEffects.{sync_number}
 use Rattle.omp_model.specs.Calls.{work_number}
 use Rattle.trace_check.specs.declared.bracket.Bracket.{Bracket}
 use Rattle.trace_check.specs.declared.bracket.Bracket.TheVariants.{Parallel, Implicit, Explicit, Worksharing, Masking, Syncing, Waiting}

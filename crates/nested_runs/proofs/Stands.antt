@@ -18,7 +18,7 @@ use Rattle.c_model.specs.declared.question.Ask.TheVariants as ask
 use Rattle.c_model.specs.declared.view.View.{View}
 use Rattle.c_model.specs.Asked.{count_asked, sections_asked}
 use Rattle.c_model.specs.Begin.{explicit_task, main_task, member_task}
-use Rattle.c_model.specs.Going.{after_answer, after_event, answered_at}
+use Rattle.c_model.specs.AfterEvents.{after_answer, after_event, answered_at}
 use Rattle.c_model.specs.Step.{settled_moment, settled_task, silent, step_at}
 use Rattle.c_model.specs.Occurring.{IsAskOf, IsAskOfNext}
 use Rattle.c_model.specs.Task.{Item, Moment, Task as Code}
@@ -37,7 +37,7 @@ use Rattle.c_model.proofs.Asking.{question_is_of_next}
 use Rattle.omp_model.specs.State.{World}
 use Rattle.omp_model.specs.declared.event.Endpoint.TheVariants.{Begin}
 use Rattle.omp_model.specs.declared.event.Event.TheVariants as event
-use Rattle.omp_model.specs.Going.{event_of_point, executes_point, single_kind}
+use Rattle.omp_model.specs.EventEffects.{event_of_point, executes_point, single_kind}
 use Rattle.nested_runs.proofs.Effects.{effect_of_event, stand_after, stand_before, stand_behind}
 use Rattle.nested_runs.proofs.Standing.{Stand, stand_among, stand_within}
 use Rattle.nested_runs.proofs.Standing.Stand.{Free, AtFork, AtMutex, AtSync}

@@ -16,7 +16,7 @@ use Rattle.omp_model.specs.declared.event.Event.TheVariants.{InitialTaskBegin, I
 use Rattle.omp_model.specs.State.{Run, Thread, World, region_at}
 use Rattle.omp_model.specs.Members.{current, current_index, current_region}
 use Rattle.omp_model.specs.Gates.{is_barrier}
-use Rattle.omp_model.specs.Going.{barrier_met}
+use Rattle.omp_model.specs.EventEffects.{barrier_met}
 use Rattle.omp_model.proofs.Touching.{AtBarrierElse, Meets, SameTeam, is_of_code}
 use Rattle.trace_check.specs.Before.{is_just, waiter, waits_of}
 use Rattle.nested_runs.proofs.Coming.{Comes}

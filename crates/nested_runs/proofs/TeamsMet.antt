@@ -15,7 +15,7 @@ use Rattle.team_parts.specs.Meetings.{TeamMeeting, is_barrier as meets_at_barrie
 use Rattle.team_parts.specs.Team.{TeamView, after_meeting, answer_to_meet, fresh_meeting, has_begun, has_passed, may_pass, meeting_answer, member_at, new_member, with_begun, with_meeting, with_member, with_passed, with_place}
 use Rattle.team_parts.proofs.Same.{equal-meeting}
 use Rattle.c_model.specs.declared.point.SyncKind.TheVariants as sync
-use Rattle.omp_model.specs.Going.{sync_number}
+use Rattle.omp_model.specs.EventEffects.{sync_number}
 use Rattle.omp_model.proofs.Alike.{what_met}
 use Rattle.nested_runs.proofs.Known.{is_last}
 

@@ -20,11 +20,11 @@ use Rattle.omp_model.specs.declared.event.Event.{Event}
 use Rattle.omp_model.specs.declared.event.Event.TheVariants.{Dispatch, InitialTaskBegin, InitialTaskEnd, Masked, MemberBegin, MemberEnd, ParallelBegin, ParallelEnd, Sync, TaskBegin, TaskCreate, TaskEnd, ThreadBegin, ThreadEnd, Work}
 use Rattle.omp_model.specs.State.{Run, Thread, World, first, first_world, pooled_at, task_at, thread_at}
 use Rattle.omp_model.specs.Members.{current, is_explicit_task}
-use Rattle.omp_model.specs.Going.{sync_number}
+use Rattle.omp_model.specs.EventEffects.{sync_number}
 use Rattle.omp_model.specs.Calls.{work_number}
-use Rattle.omp_model.specs.Changes.{summoned}
+use Rattle.omp_model.specs.Changes.{with_invitation}
 use Rattle.omp_model.specs.Conditions.{Distinct, EventOrderly, has_started}
-use Rattle.omp_model.specs.Made.{IsTaskOf}
+use Rattle.omp_model.specs.MadeWorld.{IsTaskOf}
 use Rattle.omp_model.proofs.Touching.{come_to, forked_back, is_of_code, is_summoned, pooled_back, thread_after, thread_back}
 use Rattle.omp_model.proofs.MadeEvents.{current-made}
 use Rattle.omp_model.proofs.Gos.{current-kept}
@@ -310,7 +310,7 @@ stack-either false one other is = refl
 
 pub back-stack : (W : World) (t : ℕ) (e : Event) (u : ℕ) → (thread_back W t e u).stack ≡ (thread_at W u).stack
 back-stack W t ThreadEnd u = stack-either (u == t) (record (thread_at W u) { stage = thread_stage.Ended }) (thread_at W u) refl
-back-stack W t (ParallelBegin r requested codeptr) u = stack-either (is_summoned W t r u) (summoned r (thread_at W u)) (thread_at W u) refl
+back-stack W t (ParallelBegin r requested codeptr) u = stack-either (is_summoned W t r u) (with_invitation r (thread_at W u)) (thread_at W u) refl
 back-stack W t (TaskCreate task true codeptr) u = stack-either (u == t) (record (thread_at W u) { undeferred = task }) (thread_at W u) refl
 back-stack W t (TaskCreate task false codeptr) u = refl
 back-stack W t e u = refl

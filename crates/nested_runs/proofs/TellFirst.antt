@@ -17,7 +17,7 @@ use Rattle.omp_model.specs.declared.event.Share.{Share}
 use Rattle.omp_model.specs.declared.event.Share.TheVariants.{Chunk, Section}
 use Rattle.omp_model.specs.State.{Run, Thread, World, first, first_world, pooled_at, thread_at, unmade}
 use Rattle.omp_model.specs.Members.{current}
-use Rattle.omp_model.specs.Changes.{made, summoned}
+use Rattle.omp_model.specs.Changes.{stage_once_made, with_invitation}
 use Rattle.omp_model.specs.Calls.{call_of}
 use Rattle.omp_model.specs.Conditions.{EventOrderly, has_started}
 use Rattle.omp_model.proofs.Touching.{come_to, is_summoned, pooled_after, pooled_back, thread_back}
@@ -388,7 +388,7 @@ made-either : (which : Bool) (one other : Thread) → one.stage ≢ thread_stage
 made-either true one other first second = first
 made-either false one other first second = second
 
-made-unmade : (now : ThreadStage) → made now ≢ thread_stage.Unmade
+made-unmade : (now : ThreadStage) → stage_once_made now ≢ thread_stage.Unmade
 made-unmade thread_stage.Unmade is = cc
 made-unmade thread_stage.Made is = cc
 made-unmade thread_stage.Begun is = cc
@@ -400,7 +400,7 @@ ended-unmade is = cc
 back-made : (W : World) (t : ℕ) (e : Event) (u : ℕ) → (thread_at W u).stage ≢ thread_stage.Unmade → (thread_back W t e u).stage ≢ thread_stage.Unmade
 back-made W t ThreadEnd u there = made-either (u == t) (record (thread_at W u) { stage = thread_stage.Ended }) (thread_at W u) ended-unmade there
 back-made W t (ParallelBegin r requested codeptr) u there =
-    made-either (is_summoned W t r u) (summoned r (thread_at W u)) (thread_at W u) (made-unmade (thread_at W u).stage) there
+    made-either (is_summoned W t r u) (with_invitation r (thread_at W u)) (thread_at W u) (made-unmade (thread_at W u).stage) there
 back-made W t (TaskCreate task true codeptr) u there = made-either (u == t) (record (thread_at W u) { undeferred = task }) (thread_at W u) there there
 back-made W t (TaskCreate task false codeptr) u there = there
 back-made W t e u there = there

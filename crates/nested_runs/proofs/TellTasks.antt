@@ -20,8 +20,8 @@ use Rattle.omp_model.specs.declared.limits.TheConstants.{INITIAL_TASK}
 use Rattle.omp_model.specs.State.{Run, Thread, World, first, first_world, pooled_at}
 use Rattle.omp_model.specs.Calls.{call_of}
 use Rattle.omp_model.specs.Conditions.{has_started}
-use Rattle.omp_model.specs.Going.{kind_of_task}
-use Rattle.omp_model.specs.Made.{IsMadeWorld}
+use Rattle.omp_model.specs.EventEffects.{kind_of_task}
+use Rattle.omp_model.specs.MadeWorld.{IsMadeWorld}
 use Rattle.omp_model.specs.Members.{current, is_explicit_task}
 use Rattle.omp_model.proofs.Touching.{come_to, pooled_after, pooled_back}
 use Rattle.omp_model.proofs.MadeWords.{pool-at}

@@ -12,7 +12,7 @@ use Rattle.omp_model.specs.declared.event.Event.{Event}
 use Rattle.omp_model.specs.declared.event.Event.TheVariants.{Dispatch, InitialTaskBegin, InitialTaskEnd, MemberBegin, MemberEnd, ParallelBegin, Sync, TaskBegin, TaskCreate, TaskEnd, ThreadBegin, ThreadEnd}
 use Rattle.omp_model.specs.declared.event.Share.TheVariants.{Chunk, Section}
 use Rattle.omp_model.specs.State.{Run, Thread, World, first, first_world, thread_at}
-use Rattle.omp_model.specs.Changes.{made, summoned}
+use Rattle.omp_model.specs.Changes.{stage_once_made, with_invitation}
 use Rattle.omp_model.specs.Calls.{call_of, thread_kind}
 use Rattle.omp_model.proofs.Touching.{is_summoned, thread_after, thread_back}
 use Rattle.nested_runs.proofs.Coming.{Comes}
@@ -61,7 +61,7 @@ pub record SameStage (now before : ThreadStage) : Type 0 where
 pub same-stage : (now before : ThreadStage) → now ≡ before → SameStage now before
 same-stage now before is = record { begun = ap is_begun is; over = ap is_over is }
 
-same-made : (before : ThreadStage) → SameStage (made before) before
+same-made : (before : ThreadStage) → SameStage (stage_once_made before) before
 same-made thread_stage.Unmade = record { begun = refl; over = refl }
 same-made other = record { begun = refl; over = refl }
 
@@ -73,7 +73,7 @@ either-stage false one other same = record { begun = refl; over = refl }
 pub back-stage : (W : World) (t : ℕ) (e : Event) (u : ℕ) → (is_ending (Some e) ≡ true → u ≡ t → ⊥) → SameStage (thread_back W t e u).stage (thread_at W u).stage
 back-stage W t ThreadEnd u other = same-stage _ _ (rw (ne_eqb u t (other refl)) refl)
 back-stage W t (ParallelBegin r requested codeptr) u other =
-    either-stage (is_summoned W t r u) (summoned r (thread_at W u)) (thread_at W u) (same-made (thread_at W u).stage)
+    either-stage (is_summoned W t r u) (with_invitation r (thread_at W u)) (thread_at W u) (same-made (thread_at W u).stage)
 back-stage W t (TaskCreate task true codeptr) u other =
     either-stage (u == t) (record (thread_at W u) { undeferred = task }) (thread_at W u) (record { begun = refl; over = refl })
 back-stage W t (TaskCreate task false codeptr) u other = record { begun = refl; over = refl }

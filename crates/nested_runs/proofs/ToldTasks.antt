@@ -12,7 +12,7 @@ use Rattle.omp_model.specs.declared.event.Event.{Event}
 use Rattle.omp_model.specs.declared.event.Event.TheVariants.{TaskCreate}
 use Rattle.omp_model.specs.State.{World, pooled_at}
 use Rattle.omp_model.specs.Conditions.{has_started}
-use Rattle.omp_model.specs.Going.{kind_of_task}
+use Rattle.omp_model.specs.EventEffects.{kind_of_task}
 use Rattle.omp_model.proofs.Touching.{come_to}
 use Rattle.nested_runs.proofs.Recorded.{Inside, recorded}
 use Rattle.nested_runs.proofs.Readings.{completed_by, created_by, started_by}

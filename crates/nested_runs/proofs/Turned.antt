@@ -12,11 +12,11 @@ use Rattle.omp_model.specs.declared.event.Outcome.{Outcome}
 use Rattle.omp_model.specs.declared.event.Outcome.TheVariants as outcome
 use Rattle.omp_model.specs.State.{Run, State, World, pending_at, thread_at}
 use Rattle.omp_model.proofs.Alike.{QuietWorld}
-use Rattle.omp_model.specs.Changes.{gone_past}
+use Rattle.omp_model.specs.Changes.{with_masked_skipped}
 use Rattle.omp_model.specs.Conditions.{IsOrderly}
 use Rattle.omp_model.specs.Gates.{arrival}
 use Rattle.omp_model.specs.Legal.{back, back_from, put, put_from}
-use Rattle.omp_model.specs.Made.{IsMadeState, IsThread}
+use Rattle.omp_model.specs.MadeWorld.{IsMadeState, IsThread}
 use Rattle.omp_model.specs.Silent.{Silence, Goes as StepsOn, Stops, silent_step}
 use Rattle.omp_model.specs.Turn.{called, enabled, goes_on, turn}
 use Rattle.omp_model.proofs.AlikeWorlds.{later-alike, made-alike, quiet-step, still-alike, taken-stored}
@@ -97,8 +97,8 @@ unfolding enabled
 enabled-thread S t goes = thread-goes S.world t (and_parts (is_none (pending_at S t) && is_none S.halt) (goes_on (arrival S.world t)) goes).1
 
 module _ (run : Run) (S : State) (past : List EventRecord) (knows : Knows run S.world (inside S) past) (unbroken : Unbroken past) where
-  pub reaches-past : (t : ℕ) (W : World) → Reaches S.world t W → Reaches S.world t (gone_past W t)
-  reaches-past t W so = record { alike = alike-then S.world W (gone_past W t) so.alike (alike-past W t so.alike.codes); taken = so.taken }
+  pub reaches-past : (t : ℕ) (W : World) → Reaches S.world t W → Reaches S.world t (with_masked_skipped W t)
+  reaches-past t W so = record { alike = alike-then S.world W (with_masked_skipped W t) so.alike (alike-past W t so.alike.codes); taken = so.taken }
 
   reaches-then : (t : ℕ) (W : World) (silence : Silence) → Reaches S.world t W → AfterSilence (Alike W) silence →
       AfterSilence (QuietWorld t W) silence → AfterSilence (Reaches S.world t) silence

@@ -1,7 +1,6 @@
 //! The numbers that OMPT has for what this runtime tells, written out: each law says what one constant of `omp_codes` is.
 
 ghost use Rattle.std.specs.Prelude.{◌≡◌};
-ghost use Rattle.omp_codes.specs.declared.callbacks.TheConstants as callbacks;
 ghost use Rattle.omp_codes.specs.declared.endpoints.TheConstants as endpoints;
 ghost use Rattle.omp_codes.specs.declared.thread_kinds.TheConstants as thread_kinds;
 ghost use Rattle.omp_codes.specs.declared.thread_states.TheConstants as thread_states;
@@ -14,28 +13,6 @@ ghost use Rattle.omp_codes.specs.declared.sync_kinds.TheConstants as sync_kinds;
 ghost use Rattle.omp_codes.specs.declared.mutex_kinds.TheConstants as mutex_kinds;
 ghost use Rattle.omp_codes.specs.declared.dispatch_kinds.TheConstants as dispatch_kinds;
 ghost use Rattle.omp_codes.specs.declared.set_results.TheConstants as set_results;
-
-/// The numbers of the callbacks: `ompt_callbacks_t` (OpenMP 5.2, 19.4.2), and the mask of the profile.
-pub fn callbacks_have_their_numbers()
-    ensures thread_begin { callbacks.THREAD_BEGIN ≡ 1 }
-    ensures thread_end { callbacks.THREAD_END ≡ 2 }
-    ensures parallel_begin { callbacks.PARALLEL_BEGIN ≡ 3 }
-    ensures parallel_end { callbacks.PARALLEL_END ≡ 4 }
-    ensures task_create { callbacks.TASK_CREATE ≡ 5 }
-    ensures task_schedule { callbacks.TASK_SCHEDULE ≡ 6 }
-    ensures implicit_task { callbacks.IMPLICIT_TASK ≡ 7 }
-    ensures sync_region_wait { callbacks.SYNC_REGION_WAIT ≡ 16 }
-    ensures mutex_released { callbacks.MUTEX_RELEASED ≡ 17 }
-    ensures work { callbacks.WORK ≡ 20 }
-    ensures masked { callbacks.MASKED ≡ 21 }
-    ensures sync_region { callbacks.SYNC_REGION ≡ 23 }
-    ensures lock_init { callbacks.LOCK_INIT ≡ 24 }
-    ensures lock_destroy { callbacks.LOCK_DESTROY ≡ 25 }
-    ensures mutex_acquire { callbacks.MUTEX_ACQUIRE ≡ 26 }
-    ensures mutex_acquired { callbacks.MUTEX_ACQUIRED ≡ 27 }
-    ensures dispatch { callbacks.DISPATCH ≡ 32 }
-    ensures profile_mask { callbacks.PROFILE_MASK ≡ 4558356734 }
-{}
 
 /// The states of a thread: `ompt_state_t` (OpenMP 5.2, 19.4.4), in 32 bits and in the 16 of a snapshot.
 pub fn states_have_their_numbers()

@@ -2,11 +2,10 @@
 //!
 //! Definitions, contracts and code cite the numbers of callbacks and enumerations by the names that `omp_codes` gives them. So a name with a wrong
 //! number would be the same wrong number everywhere, and no other contract would show it. Here each is compared with the number that stands in
-//! OpenMP 5.2, 19.4.
+//! OpenMP 5.2, 19.4. Those of the callbacks are compared in `omp_codes::callbacks`, beside them.
 //!
 //! Proved, as laws of the constants:
 //!
-//! - [`callbacks_have_their_numbers`]: the callbacks of the profile, and its mask;
 //! - [`states_have_their_numbers`]: the states of a thread;
 //! - [`flags_have_their_bits`]: the flags of regions and tasks;
 //! - [`kinds_have_their_numbers`]: ends of a scope, kinds of threads, work, synchronization, mutexes and dispatch, statuses of tasks;
@@ -18,6 +17,6 @@
 mod laws;
 
 pub use laws::{
-    answers_have_their_numbers, callbacks_have_their_numbers, flags_have_their_bits,
-    kinds_have_their_numbers, states_have_their_numbers,
+    answers_have_their_numbers, flags_have_their_bits, kinds_have_their_numbers,
+    states_have_their_numbers,
 };

@@ -18,19 +18,19 @@ use Rattle.omp_model.specs.declared.history.What.{What}
 use Rattle.omp_model.specs.declared.history.What.TheVariants.{Back, Go, Put}
 use Rattle.omp_model.specs.declared.limits.TheConstants.{STEPS, STEPS_OF_A_TURN, TURNS, TURN_LIMIT}
 use Rattle.omp_model.specs.declared.event.Arrival.{Arrival}
-use Rattle.omp_model.specs.declared.event.Arrival.TheVariants.{Comes, Meets, Steps, Waits}
-use Rattle.omp_model.specs.Changes.{gone_past, task_made}
+use Rattle.omp_model.specs.declared.event.Arrival.TheVariants.{CodeEvent, RuntimeEvent, Steps, Waits}
+use Rattle.omp_model.specs.Changes.{with_masked_skipped, task_made}
 use Rattle.omp_model.specs.Gates.{arrival}
 use Rattle.omp_model.specs.Members.{current, current_region, moment_of, view_of}
 use Rattle.omp_model.specs.Turn.{with_going}
 use Rattle.omp_model.specs.Cause.{cause_by_halt, cause_in, cause_of, cause_of_whole, whole_value}
-use Rattle.omp_model.specs.Going.{Going, after_creation, effect_of_point, event_of_point, fault_of_point, going_by, going_in_code, going_to_point, kind_of_task, past_point, told, unless}
+use Rattle.omp_model.specs.EventEffects.{Going, after_creation, effect_of_point, event_of_point, fault_of_point, going_by, go_of_code, going_to_point, kind_of_task, past_point, told, unless}
 use Rattle.omp_model.specs.Legal.{AllowsFrom, Legal, after, after_from, does, entered, may, may_put}
 use Rattle.omp_model.specs.Silent.{Silence, silence_of, silent_step}
 use Rattle.omp_model.specs.Silent.Silence.{Goes, Stops}
 use Rattle.omp_model.specs.State.{Run, State, World, first, no_task, pending_at, task_with}
 use Rattle.sync_objects.specs.Owners.{critical_locks}
-use Rattle.omp_model.specs.Turn.{Turn, Walk, after_steps, after_walk, going_past, halted, stepped, turn, unlimited, walk, walk_by, walk_on, walked}
+use Rattle.omp_model.specs.Turn.{Turn, Walk, after_steps, after_walk, state_past_masked, halted, stepped, turn, unlimited, walk, walk_by, walk_on, walked}
 use Rattle.numbered_runs.specs.Alike.{AreAlike}
 use Rattle.numbered_runs.proofs.Names.{same_criticals, same_explicit_task, same_main_task, same_store}
 use Rattle.numbered_runs.proofs.Steps.{same_silent}
@@ -71,10 +71,10 @@ module _ (run : Run) (other : TreeView) (same : AreAlike run.program other) wher
   on_same : (S : State) (t made : ℕ) (to : Arrival) (one more : World → Walk) → ((after : World) → one after ≡ more after) → walk_on run S t made to one ≡ walk_on alike S t made to more
   on_same S t made Steps one more is =
       ap (λ (walk : Walk). if nat_le run.steps S.steps then walked S made (Some (Limit STEPS)) else walk)
-      (by_same (going_past S t) made (silent_step run S.world t) one more is ∙ ap (λ (silence : Silence). walk_by (going_past S t) made silence more) (step_same S.world t))
+      (by_same (state_past_masked S t) made (silent_step run S.world t) one more is ∙ ap (λ (silence : Silence). walk_by (state_past_masked S t) made silence more) (step_same S.world t))
   on_same S t made Waits one more is = refl
-  on_same S t made Comes one more is = refl
-  on_same S t made (Meets event) one more is = refl
+  on_same S t made CodeEvent one more is = refl
+  on_same S t made (RuntimeEvent event) one more is = refl
 
   walk_same : (left made : ℕ) (S : State) (t : ℕ) → walk run left made S t ≡ walk alike left made S t
   unfolding walk
@@ -100,18 +100,18 @@ module _ (run : Run) (other : TreeView) (same : AreAlike run.program other) wher
   outcome_same W t now (Occurs what tree) = point_same W t now what
   outcome_same W t now outcome = refl
 
-  going_same : (W : World) (t : ℕ) → going_in_code run W t ≡ going_in_code alike W t
-  unfolding going_in_code
+  going_same : (W : World) (t : ℕ) → go_of_code run W t ≡ go_of_code alike W t
+  unfolding go_of_code
   going_same W t =
       outcome_same W t (told W t) (silent run.program (view_of W t) (told W t))
       ∙ ap (λ (outcome : CodeOutcome). going_by alike W t (told W t) outcome) (same_silent run.program other same (view_of W t) (told W t))
 
   -- ---- turns
   arrived_same : (S : State) (made t : ℕ) (to : Arrival) → after_steps run S made t to ≡ after_steps alike S made t to
-  arrived_same S made t Comes = ap (λ (going : Going). with_going (going_past S t) made t going) (going_same (gone_past S.world t) t)
+  arrived_same S made t CodeEvent = ap (λ (going : Going). with_going (state_past_masked S t) made t going) (going_same (with_masked_skipped S.world t) t)
   arrived_same S made t Waits = refl
   arrived_same S made t Steps = refl
-  arrived_same S made t (Meets event) = refl
+  arrived_same S made t (RuntimeEvent event) = refl
 
   stopped_same : (steps : Walk) (t : ℕ) (stop : Option Halt) → after_walk run steps t stop ≡ after_walk alike steps t stop
   stopped_same steps t (Some halt) = refl

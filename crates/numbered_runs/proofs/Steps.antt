@@ -19,13 +19,13 @@ use Rattle.c_model.specs.declared.view.View.{View}
 use Rattle.c_model.specs.Calls.{begin_call, begin_lock_call, begin_return_of, begin_right, bound_in, enters, file_bound, open_call, returns_to, with_parameters}
 use Rattle.c_model.specs.Cells.{Bound, has_too_many, new_entry, with_cells}
 use Rattle.c_model.specs.Clauses.{condition_of, requested_threads}
-use Rattle.c_model.specs.Coming.{binds, bound_of, goes_on, with_result}
+use Rattle.c_model.specs.StepOutcomes.{binds, bound_of, goes_on, with_result}
 use Rattle.c_model.specs.Constructs.{begin_task, creates, value_or}
 use Rattle.c_model.specs.Parts.{has_child}
 use Rattle.c_model.specs.Program.{function_named, parameters_of, place_of}
 use Rattle.c_model.specs.Statements.{begin_local_set, begin_set_to_call, begin_set_to_value, declares, makes_first_step, makes_step}
 use Rattle.c_model.specs.Step.{begin_construct, begin_inside, begin_statement, items_from_next, silent, step_at, step_of}
-use Rattle.c_model.specs.Task.{Here, Item, Moment, OpenCall, Outcome, Store, Task}
+use Rattle.c_model.specs.Task.{StepStart, Item, Moment, OpenCall, Outcome, Store, Task}
 use Rattle.c_model.specs.Task.Item.{Start, Declare, Test, Third, Initialise, Return, FallOff, Inside, MakeCells}
 use Rattle.c_model.specs.Task.Outcome.{Limits, Occurs, StepsTo}
 use Rattle.c_model.specs.Value.{is_zero}
@@ -40,7 +40,7 @@ with_same (Err trap) one other same = refl
 module _ (p q : TreeView) (same : AreAlike p q) where
   module _ (view : View) (task : Task) (store : Store) where
     -- a step from here, of a program
-    abbrev here : TreeView → Here
+    abbrev here : TreeView → StepStart
     here program = record { program = program; view = view; task = task; store = store }
 
     -- ---- calls and returns

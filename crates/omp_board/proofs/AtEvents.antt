@@ -8,7 +8,7 @@ use Rattle.c_model.specs.declared.point.Point.TheVariants as point
 use Rattle.c_model.specs.declared.point.SyncKind.{SyncKind}
 use Rattle.c_model.specs.declared.point.SyncStage.{SyncStage}
 use Rattle.c_model.specs.declared.point.SyncStage.TheVariants as stage
-use Rattle.c_model.specs.Going.{settled_after_event}
+use Rattle.c_model.specs.AfterEvents.{settled_after_event}
 use Rattle.c_model.specs.Step.{settled_moment}
 use Rattle.c_model.specs.Task.{Task as Code}
 use Rattle.task_pool.specs.Tasks.{MayBeParent}
@@ -18,10 +18,10 @@ use Rattle.omp_model.specs.declared.event.Event.{Event}
 use Rattle.omp_model.specs.declared.event.Halt.{Halt}
 use Rattle.omp_model.specs.State.{Run, Task, World, no_task, task_at}
 use Rattle.omp_model.specs.Members.{code_of, current, current_index, current_region, is_member, moment_of, view_of}
-use Rattle.omp_model.specs.Changes.{met, passed, with_code}
+use Rattle.omp_model.specs.Changes.{with_member_meeting, with_barrier_passed, with_code}
 use Rattle.omp_model.specs.Gates.{is_barrier}
-use Rattle.omp_model.specs.Going.{Happens, after_meeting_at, after_sync, barrier_met, effect_of_point, event_of_point, executes_point, fault_of_point, going_to_point, past_point, unless, work_met}
-use Rattle.omp_model.specs.Made.{IsMadeWorld, IsTask}
+use Rattle.omp_model.specs.EventEffects.{Happens, after_meeting_at, after_sync, barrier_met, effect_of_point, event_of_point, executes_point, fault_of_point, going_to_point, past_point, unless, work_met}
+use Rattle.omp_model.specs.MadeWorld.{IsMadeWorld, IsTask}
 use Rattle.omp_model.proofs.Later.{at-set}
 use Rattle.omp_model.proofs.MadeEvents.{current-made}
 use Rattle.omp_board.specs.Board.{run_of}
@@ -67,11 +67,11 @@ module _ (W : World) (t : ℕ) (made : IsMadeWorld W) (some : 1 ≤ current W t)
   either one other false first second = second
 
   code-meeting : (what : Meeting) → SameCode W (after_meeting_at W t what) t
-  code-meeting what = either (met W (current_region W t) (current_index W t) what) W (is_member W t) (record { current = refl; code = refl }) same
+  code-meeting what = either (with_member_meeting W (current_region W t) (current_index W t) what) W (is_member W t) (record { current = refl; code = refl }) same
 
   code-sync : (codeptr : ℕ) (which : SyncKind) (at : SyncStage) → SameCode W (after_sync W t codeptr which at) t
   code-sync codeptr which stage.RegionBegin = either (after_meeting_at W t (barrier_met codeptr which)) W (is_barrier which) (code-meeting (barrier_met codeptr which)) same
-  code-sync codeptr which stage.WaitEnd = either (passed W (current_region W t) (current_index W t)) W (is_barrier which) (record { current = refl; code = refl }) same
+  code-sync codeptr which stage.WaitEnd = either (with_barrier_passed W (current_region W t) (current_index W t)) W (is_barrier which) (record { current = refl; code = refl }) same
   code-sync codeptr which other = same
 
   -- the code stays as it is

@@ -6,14 +6,14 @@ use Rattle.task_pool.specs.declared.task.Full.{Full}
 use Rattle.task_pool.specs.declared.task.Task.{Task as PoolTask}
 use Rattle.task_pool.specs.Tasks.{MayBeParent}
 use Rattle.task_pool.specs.View.{answer_to_add}
-use Rattle.omp_model.specs.declared.event.Arrival.TheVariants.{Meets}
+use Rattle.omp_model.specs.declared.event.Arrival.TheVariants.{RuntimeEvent}
 use Rattle.omp_model.specs.declared.event.Event.TheVariants as event
 use Rattle.omp_model.specs.declared.event.Halt.{Halt}
 use Rattle.omp_model.specs.declared.event.Halt.TheVariants.{Limit}
 use Rattle.omp_model.specs.declared.limits.TheConstants.{STACK, STACK_LIMIT}
 use Rattle.omp_model.specs.Gates.{arrival}
-use Rattle.omp_model.specs.Going.{fault_of, first_fault, full_fault, stack_fault, task_fault}
-use Rattle.omp_model.specs.Made.{IsMadeWorld}
+use Rattle.omp_model.specs.EventEffects.{fault_of, first_fault, full_fault, stack_fault, task_fault}
+use Rattle.omp_model.specs.MadeWorld.{IsMadeWorld}
 use Rattle.omp_model.specs.State.{World, region_at, thread_at}
 use Rattle.omp_model.proofs.Arriving.{Arrives, AtMember, arrives}
 
@@ -61,7 +61,7 @@ module _ (W : World) (t : ℕ) where
     unfolding fault_of
     member_counted none = not-full (answer_to_add W.pool.tasks) (first-unmet (task_fault W) (stack_fault W t) none)
 
-    module _ (made : IsMadeWorld W) (meets : arrival W t ≡ Meets (event.MemberBegin r k)) where
+    module _ (made : IsMadeWorld W) (meets : arrival W t ≡ RuntimeEvent (event.MemberBegin r k)) where
       at-member : AtMember W t r k
       at-member = subst (Arrives W t) meets (arrives W t)
 

@@ -7,7 +7,7 @@ use Rattle.c_model.specs.Begin.{explicit_task}
 use Rattle.c_model.specs.Step.{settled_moment, silent}
 use Rattle.c_model.specs.Task.{Moment}
 use Rattle.c_steps.specs.Beginning.{IsCreation}
-use Rattle.c_steps.specs.Held.{outcome_at}
+use Rattle.c_steps.specs.ControlView.{outcome_at}
 use Rattle.c_steps.specs.declared.next.Next.TheVariants as next
 use Rattle.omp_board.specs.Tasks.{HasCells, cells_around, created_by}
 use Rattle.c_steps.proofs.Creating.{IsCreating, creating_next}

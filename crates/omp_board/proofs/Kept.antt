@@ -5,23 +5,23 @@ use Rattle.std.proofs.lemmas.List.{get_or-set_same, get_or_append_left, length-a
 use Rattle.std.proofs.lemmas.List.Elements.{All-cons, All-nil, All-push, All-set}
 use Rattle.std.proofs.lemmas.Option.{IfSome_then}
 use Rattle.c_syntax.specs.language.Numbered.{TreeView}
-use Rattle.c_steps.specs.Held.{Held}
-use Rattle.c_steps.specs.Made.{IsMadeFor}
+use Rattle.c_steps.specs.ControlView.{ControlView}
+use Rattle.c_steps.specs.OfProgram.{IsMadeFor}
 use Rattle.omp_board.specs.declared.task.Task.{Task}
 use Rattle.omp_board.specs.Keeping.{HasRoomIn, IsKept, IsOfProgram, control_at, kept_nothing}
 use Rattle.omp_board.specs.Tasks.{TaskRoom, no_task_room}
 
 -- a task keeps no code any more
-without : (tasks : List Task) (k j : ℕ) (new : Task) (P : Held → Type 0) → new.control ≡ None → IfSome (control_at tasks j) P → IfSome (control_at (slice_set tasks k new) j) P
+without : (tasks : List Task) (k j : ℕ) (new : Task) (P : ControlView → Type 0) → new.control ≡ None → IfSome (control_at tasks j) P → IfSome (control_at (slice_set tasks k new) j) P
 without [] k j new P none some = some
-without (task ∷ tasks) zero zero new P none some = subst (λ (control : Option Held). IfSome control P) (sym none) tt
+without (task ∷ tasks) zero zero new P none some = subst (λ (control : Option ControlView). IfSome control P) (sym none) tt
 without (task ∷ tasks) zero (suc j) new P none some = some
 without (task ∷ tasks) (suc k) zero new P none some = some
 without (task ∷ tasks) (suc k) (suc j) new P none some = without tasks k j new P none some
 
-module _ (program : TreeView) (tasks : List Task) (capacity : ℕ) (blanks : List Held) (room : TaskRoom) (kept : IsKept program tasks capacity blanks room) where
+module _ (program : TreeView) (tasks : List Task) (capacity : ℕ) (blanks : List ControlView) (room : TaskRoom) (kept : IsKept program tasks capacity blanks room) where
   -- one more task
-  pub kept_more : (task : Task) → IfSome task.control (IsMadeFor program) → (now : List Task) (capacity_now : ℕ) (blanks_now : List Held) → 0 < room.tasks → now ≡ tasks ++ task ∷ [] → capacity ≤ capacity_now → All (IsMadeFor program) blanks_now → IsKept program now capacity_now blanks_now (record room { tasks = 0 })
+  pub kept_more : (task : Task) → IfSome task.control (IsMadeFor program) → (now : List Task) (capacity_now : ℕ) (blanks_now : List ControlView) → 0 < room.tasks → now ≡ tasks ++ task ∷ [] → capacity ≤ capacity_now → All (IsMadeFor program) blanks_now → IsKept program now capacity_now blanks_now (record room { tasks = 0 })
   kept_more task made now capacity_now blanks_now some is more blanks_made =
       let there = kept.there in
       let longer : length now ≡ length tasks + 1 = ap length is ∙ length-append tasks (task ∷ []) in
@@ -36,11 +36,11 @@ module _ (program : TreeView) (tasks : List Task) (capacity : ℕ) (blanks : Lis
         slots = omega arith;
         few = omega arith;
         there = omega arith;
-        steps = subst (λ (control : Option Held). IfSome control (HasRoomIn (record room { tasks = 0 }))) (sym same) (IfSome_then (control_at tasks room.task) kept.steps (λ held has. record { steps = has.steps; passes = has.passes }));
+        steps = subst (λ (control : Option ControlView). IfSome control (HasRoomIn (record room { tasks = 0 }))) (sym same) (IfSome_then (control_at tasks room.task) kept.steps (λ held has. record { steps = has.steps; passes = has.passes }));
       }
 
   -- a task's control is kept for another task
-  pub kept_blank : (k : ℕ) (task : Task) (control : Held) (blanks_now : List Held) → task.control ≡ None → IsMadeFor program control → blanks_now ≡ blanks ++ control ∷ [] → IsKept program (slice_set tasks k task) capacity blanks_now room
+  pub kept_blank : (k : ℕ) (task : Task) (control : ControlView) (blanks_now : List ControlView) → task.control ≡ None → IsMadeFor program control → blanks_now ≡ blanks ++ control ∷ [] → IsKept program (slice_set tasks k task) capacity blanks_now room
   kept_blank k task control blanks_now none made is =
       let there = kept.there in
       let longer : length blanks_now ≡ length blanks + 1 = ap length is ∙ length-append blanks (control ∷ []) in
@@ -49,7 +49,7 @@ module _ (program : TreeView) (tasks : List Task) (capacity : ℕ) (blanks : Lis
       let few = kept.few in
       let spare = kept.spare in
       record {
-        controls = All-set (IsOfProgram program) tasks k task (subst (λ (control : Option Held). IfSome control (IsMadeFor program)) (sym none) tt) kept.controls;
+        controls = All-set (IsOfProgram program) tasks k task (subst (λ (control : Option ControlView). IfSome control (IsMadeFor program)) (sym none) tt) kept.controls;
         blanks_made = subst (All (IsMadeFor program)) (sym is) (All-push (IsMadeFor program) blanks control kept.blanks_made made);
         spare = omega arith;
         slots = omega arith;
@@ -59,7 +59,7 @@ module _ (program : TreeView) (tasks : List Task) (capacity : ℕ) (blanks : Lis
       }
 
   -- steps of a task's code were made, for which there was room
-  pub kept_stepped : (k made : ℕ) (task : Task) (control new : Held) → task ≡ slice_index_or tasks k kept_nothing → task.control ≡ Some control → k < length tasks → room.task ≡ k → new.spare + made ≡ control.spare → new.passes ≡ control.passes → IsMadeFor program new →
+  pub kept_stepped : (k made : ℕ) (task : Task) (control new : ControlView) → task ≡ slice_index_or tasks k kept_nothing → task.control ≡ Some control → k < length tasks → room.task ≡ k → new.spare + made ≡ control.spare → new.passes ≡ control.passes → IsMadeFor program new →
       IsKept program (slice_set tasks k (record task { control = Some new })) capacity blanks (record room { steps = room.steps - made })
   kept_stepped k made task control new found is within of_task spare passes made_for =
       let changed : Task = record task { control = Some new } in
@@ -70,7 +70,7 @@ module _ (program : TreeView) (tasks : List Task) (capacity : ℕ) (blanks : Lis
       let before : control_at tasks room.task ≡ Some control = ap (control_at tasks) of_task ∙ sym (ap (λ (task : Task). task.control) found) ∙ is in
       let after : control_at (slice_set tasks k changed) room.task ≡ Some new =
       ap (control_at (slice_set tasks k changed)) of_task ∙ ap (λ (task : Task). task.control) (get_or-set_same tasks k changed kept_nothing within) in
-      let has : HasRoomIn room control = subst (λ (control : Option Held). IfSome control (HasRoomIn room)) before kept.steps in
+      let has : HasRoomIn room control = subst (λ (control : Option ControlView). IfSome control (HasRoomIn room)) before kept.steps in
       let enough = has.steps in
       let passing = has.passes in
       record {
@@ -80,22 +80,22 @@ module _ (program : TreeView) (tasks : List Task) (capacity : ℕ) (blanks : Lis
         slots = omega arith;
         few = omega arith;
         there = omega arith;
-        steps = subst (λ (control : Option Held). IfSome control (HasRoomIn (record room { steps = room.steps - made }))) (sym after) (record { steps = omega (arith, enough, spare); passes = omega (arith, passing, passes) });
+        steps = subst (λ (control : Option ControlView). IfSome control (HasRoomIn (record room { steps = room.steps - made }))) (sym after) (record { steps = omega (arith, enough, spare); passes = omega (arith, passing, passes) });
       }
 
 -- the first two tasks, one of them without code
-pub kept_first : (program : TreeView) (first second : Task) (now : List Task) (capacity : ℕ) (blanks : List Held) → first.control ≡ None → IfSome second.control (IsMadeFor program) → now ≡ first ∷ second ∷ [] → length now ≤ capacity → All (IsMadeFor program) blanks → IsKept program now capacity blanks no_task_room
+pub kept_first : (program : TreeView) (first second : Task) (now : List Task) (capacity : ℕ) (blanks : List ControlView) → first.control ≡ None → IfSome second.control (IsMadeFor program) → now ≡ first ∷ second ∷ [] → length now ≤ capacity → All (IsMadeFor program) blanks → IsKept program now capacity blanks no_task_room
 kept_first program first second now capacity blanks none made is room blanks_made =
     let two : length now ≡ 2 = ap length is in
     let same : control_at now 0 ≡ None = ap (λ (tasks : List Task). control_at tasks 0) is ∙ none in
     record {
       controls =
           subst (All (IsOfProgram program)) (sym is)
-          (All-cons (IsOfProgram program) first (second ∷ []) (subst (λ (control : Option Held). IfSome control (IsMadeFor program)) (sym none) tt) (All-cons (IsOfProgram program) second [] made (All-nil (IsOfProgram program))));
+          (All-cons (IsOfProgram program) first (second ∷ []) (subst (λ (control : Option ControlView). IfSome control (IsMadeFor program)) (sym none) tt) (All-cons (IsOfProgram program) second [] made (All-nil (IsOfProgram program))));
       blanks_made = blanks_made;
       spare = omega arith;
       slots = omega arith;
       few = omega arith;
       there = omega arith;
-      steps = subst (λ (control : Option Held). IfSome control (HasRoomIn no_task_room)) (sym same) tt;
+      steps = subst (λ (control : Option ControlView). IfSome control (HasRoomIn no_task_room)) (sym same) tt;
     }

@@ -5,7 +5,7 @@ use Rattle.c_model.specs.declared.point.Point.TheVariants.{ParallelBegin}
 use Rattle.c_model.specs.declared.upcoming.Upcoming.TheVariants as upcoming
 use Rattle.c_model.specs.declared.view.View.{View}
 use Rattle.c_model.specs.Begin.{blank_task, member_task}
-use Rattle.c_model.specs.Going.{passed_at, settled_after_event}
+use Rattle.c_model.specs.AfterEvents.{passed_at, settled_after_event}
 use Rattle.c_model.specs.Step.{is_event}
 use Rattle.c_model.specs.Task.{Item, Task}
 use Rattle.c_model.specs.Task.Item.{Forked, Sync, Acquire, TestLock}
@@ -13,7 +13,7 @@ use Rattle.c_model.specs.Upcoming.{upcoming_among, upcoming_of}
 use Rattle.c_steps.specs.Beginning.{HasForked}
 use Rattle.c_steps.specs.Passing.{IsEventOfNext}
 use Rattle.c_steps.proofs.Giving.{same_task}
-use Rattle.omp_model.specs.Going.{has_forked, member_code}
+use Rattle.omp_model.specs.EventEffects.{has_forked, member_code}
 
 by-form : (event : Bool) → upcoming.RegionEnd ≡ (if event then upcoming.Event else upcoming.Step) → ⊥
 by-form true is = cc

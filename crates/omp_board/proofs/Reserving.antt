@@ -2,13 +2,13 @@
 use Rattle.std.proofs.Common.{◌≡◌, ℕ, List, slice_set, slice_index_or, Some, Result, Ok, Err, OnOk, OnErr, sym, ap, ◌∙◌}
 use Rattle.std.proofs.Math.Seq.{map-set_same}
 use Rattle.c_syntax.specs.language.Numbered.{TreeView}
-use Rattle.c_steps.specs.Held.{Held, task_at}
+use Rattle.c_steps.specs.ControlView.{ControlView, task_at}
 use Rattle.c_steps.specs.Moves.{roomy}
 use Rattle.omp_board.specs.declared.task.Task.{Task}
 use Rattle.omp_board.specs.Keeping.{seen_task, seen_tasks}
 use Rattle.omp_board.specs.Tasks.{code_of}
 
-module _ (program : TreeView) (old new : Held) where
+module _ (program : TreeView) (old new : ControlView) where
   same_code : {A E : Type 0} (result : Result A E) → OnOk result (new ≡ roomy old) → OnErr result (new ≡ old) → task_at program new ≡ task_at program old
   same_code (Ok it) room memory = ap (task_at program) room
   same_code (Err it) room memory = ap (task_at program) memory

@@ -12,7 +12,7 @@ use Rattle.c_model.specs.declared.upcoming.Upcoming.TheVariants as upcoming
 use Rattle.c_steps.specs.declared.next.Next.{Next}
 use Rattle.c_steps.specs.declared.next.Next.TheVariants as next
 use Rattle.c_steps.specs.Advancing.{IsKept as IsAfterAdvance, IsLeft, IsNamed}
-use Rattle.c_steps.specs.Held.{Held, moment_at, outcome_at, task_at}
+use Rattle.c_steps.specs.ControlView.{ControlView, moment_at, outcome_at, task_at}
 use Rattle.c_steps.specs.Trying.{HaveStepsMade, IsStepMade, IsUntouched}
 use Rattle.omp_model.specs.State.{Task as Seen, no_task}
 use Rattle.omp_board.specs.declared.task.Task.{Task}
@@ -27,7 +27,7 @@ pub seen_at : (program : TreeView) (tasks : List Task) (k : ℕ) → slice_index
 seen_at program tasks k = get_or-map (seen_task program) tasks k kept_nothing
 
 -- no step was made, so that the control is left alone
-left_by : (program : TreeView) (sight : View) (of : Next) (old : Held) (before : Store) (new : Held) (after : Store) → IsStill of → IsAfterAdvance program sight of old before new after → IsLeft program sight old before new after
+left_by : (program : TreeView) (sight : View) (of : Next) (old : ControlView) (before : Store) (new : ControlView) (after : Store) → IsStill of → IsAfterAdvance program sight of old before new after → IsLeft program sight old before new after
 left_by program sight next.Quiet old before new after still kept = absurd still
 left_by program sight (next.Ask ask node) old before new after still kept = kept
 left_by program sight (next.Event point node) old before new after still kept = kept
@@ -35,7 +35,7 @@ left_by program sight (next.Ended number) old before new after still kept = kept
 left_by program sight (next.Trap trap) old before new after still kept = kept
 left_by program sight (next.Limit limit) old before new after still kept = kept
 
-named_by : (program : TreeView) (of : Next) (new : Held) → IsNamed program of new → IsNamedIn program of (task_at program new).todo
+named_by : (program : TreeView) (of : Next) (new : ControlView) → IsNamed program of new → IsNamedIn program of (task_at program new).todo
 named_by program next.Quiet new named = tt
 named_by program (next.Ask ask node) new named = named
 named_by program (next.Event point node) new named = named
@@ -61,7 +61,7 @@ module _ (program : TreeView) (tasks : List Task) (store : Store) (room : TaskRo
       ap (λ (now : List Seen). record (seen program tasks store room) { tasks = now }) (map-set (seen_task program) tasks k new ∙ ap (slice_set (seen_tasks program tasks) k) (so ∙ ap change task_found))
       ∙ ap (λ (before : TasksView). with_task_in before k (change (task_in view k))) is
 
-  module _ (control new : Held) (after : Store) (is_kept : kept.control ≡ Some control) where
+  module _ (control new : ControlView) (after : Store) (is_kept : kept.control ≡ Some control) where
     pub moment_found : moment_at program control store ≡ moment_in view k
     moment_found =
         let code : task_at program control ≡ code_in view k = sym (ap (code_of program) is_kept) ∙ ap (λ (task : Seen). task.code) task_found in
@@ -136,26 +136,26 @@ abbrev pub fewer : ℕ → TaskRoom → TaskRoom
 fewer count room = record room { steps = room.steps - count }
 
 -- what a control has left
-pub spare_left : (program : TreeView) (sight : View) (count : ℕ) (old new : Held) (before after : Store) → HaveStepsMade program sight count old before new after → new.spare + count ≡ old.spare
+pub spare_left : (program : TreeView) (sight : View) (count : ℕ) (old new : ControlView) (before after : Store) → HaveStepsMade program sight count old before new after → new.spare + count ≡ old.spare
 spare_left program sight zero old new before after left = let same = left.spare in omega (arith, same)
 spare_left program sight (suc count) old new before after (between, middle, so, last) =
     let earlier = spare_left program sight count old between before middle so in
     let made = last.kept.spare in
     omega (arith, earlier, made)
 
-pub passes_left : (program : TreeView) (sight : View) (count : ℕ) (old new : Held) (before after : Store) → HaveStepsMade program sight count old before new after → new.passes ≡ old.passes
+pub passes_left : (program : TreeView) (sight : View) (count : ℕ) (old new : ControlView) (before after : Store) → HaveStepsMade program sight count old before new after → new.passes ≡ old.passes
 passes_left program sight zero old new before after left = left.passes
 passes_left program sight (suc count) old new before after (between, middle, so, last) = last.kept.passes ∙ passes_left program sight count old between before middle so
 
 -- steps that were made one after another
-module _ (program : TreeView) (tasks : List Task) (store : Store) (room : TaskRoom) (view : TasksView) (is : seen program tasks store room ≡ view) (k : ℕ) (kept : Task) (found : kept ≡ slice_index_or tasks k kept_nothing) (control : Held) (is_kept : kept.control ≡ Some control) (within : k < length tasks) where
-  abbrev held : Held → Task
+module _ (program : TreeView) (tasks : List Task) (store : Store) (room : TaskRoom) (view : TasksView) (is : seen program tasks store room ≡ view) (k : ℕ) (kept : Task) (found : kept ≡ slice_index_or tasks k kept_nothing) (control : ControlView) (is_kept : kept.control ≡ Some control) (within : k < length tasks) where
+  abbrev held : ControlView → Task
   held control = record kept { control = Some control }
 
-  abbrev pub after_steps : ℕ → Held → Store → TasksView
+  abbrev pub after_steps : ℕ → ControlView → Store → TasksView
   after_steps count new after = seen program (slice_set tasks k (held new)) after (fewer count room)
 
-  one_more : (count : ℕ) (between new : Held) (middle after : Store) (sight : View) → IsStepMade program sight between middle new after → HasSteppedIn (after_steps count between middle) sight k (after_steps (suc count) new after)
+  one_more : (count : ℕ) (between new : ControlView) (middle after : Store) (sight : View) → IsStepMade program sight between middle new after → HasSteppedIn (after_steps count between middle) sight k (after_steps (suc count) new after)
   one_more count between new middle after sight last =
       let list : List Task = slice_set tasks k (held between) in
       let inside : k < length list = subst (λ (n : ℕ). k < n) (sym (length-set tasks k (held between))) within in
@@ -164,7 +164,7 @@ module _ (program : TreeView) (tasks : List Task) (store : Store) (room : TaskRo
       subst (λ (list : List Task). HasSteppedIn (after_steps count between middle) sight k (seen program list after (fewer (suc count) room))) (set_twice tasks k (held between) (held new))
       (record { step = so.0; upcoming = so.1; rest = so.2 })
 
-  pub have_stepped : (count : ℕ) (new : Held) (after : Store) (sight : View) → HaveStepsMade program sight count control store new after → HaveSteppedIn count view sight k (after_steps count new after)
+  pub have_stepped : (count : ℕ) (new : ControlView) (after : Store) (sight : View) → HaveStepsMade program sight count control store new after → HaveSteppedIn count view sight k (after_steps count new after)
   have_stepped zero new after sight left =
       let none : room.steps - zero ≡ room.steps = omega arith in
       ap (λ (steps : ℕ). seen program (slice_set tasks k (held new)) after (record room { steps = steps })) none ∙ untouched program tasks store room view is k kept found control new after is_kept left

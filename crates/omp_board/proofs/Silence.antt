@@ -13,7 +13,7 @@ use Rattle.c_model.specs.declared.view.View.{View}
 use Rattle.c_model.specs.Answers.{AnswersFirst}
 use Rattle.c_model.specs.Asked.{count_asked, sections_asked}
 use Rattle.c_model.specs.Clauses.{sections_of, statements_among}
-use Rattle.c_model.specs.Going.{after_answer}
+use Rattle.c_model.specs.AfterEvents.{after_answer}
 use Rattle.c_model.specs.Occurring.{IsAskOf, IsAskOfNext}
 use Rattle.c_model.specs.Parts.{trees_in}
 use Rattle.c_model.proofs.Fitting.{Fits}
@@ -22,13 +22,13 @@ use Rattle.c_model.specs.Task.{Item, Moment, Outcome, Task as Code}
 use Rattle.c_model.specs.Task.Item.{NextSection}
 use Rattle.c_steps.specs.declared.next.Next.{Next}
 use Rattle.c_steps.specs.declared.next.Next.TheVariants as next
-use Rattle.c_steps.specs.Held.{outcome_at}
+use Rattle.c_steps.specs.ControlView.{outcome_at}
 use Rattle.omp_model.specs.declared.event.Arrival.TheVariants.{Steps}
 use Rattle.omp_model.specs.declared.limits.TheConstants.{IMPLICIT_REGION}
 use Rattle.omp_model.specs.Gates.{arrival}
 use Rattle.omp_model.specs.State.{Region, Thread, World, no_region, region_at, thread_at, unmade}
 use Rattle.omp_model.specs.Members.{code_of, current, current_region, member_index, moment_of, region_of, view_of}
-use Rattle.omp_model.specs.Changes.{gone_past, gone_to, sharing, with_team}
+use Rattle.omp_model.specs.Changes.{with_masked_skipped, gone_to, with_taken_share, with_team}
 use Rattle.omp_model.specs.Silent.{answer_to, answered, answered_by, chunk_dealt, fits_loop, fitting_chunk, fitting_section, items_asking, section_dealt, share_taken, silence_of, silent_step, team_after}
 use Rattle.omp_model.proofs.Coming.{steps-silent}
 use Rattle.omp_model.proofs.GonePast.{answered-past, code-past, gone_to-past, settled-once}
@@ -137,25 +137,25 @@ module _ (program : TreeView) (W : World) (t : ℕ) (view : View) (sees : view �
   no_event steps other = no-event program found now (subst (λ (outcome : Outcome). Fits outcome false) (sym comes-to) (steps-silent W t program steps)) other
 
 module _ (W : World) (t : ℕ) where
-  pub past_settled : settled_task (view_of (gone_past W t) t) (code_of (gone_past W t) t) ≡ code_of (gone_past W t) t
+  pub past_settled : settled_task (view_of (with_masked_skipped W t) t) (code_of (with_masked_skipped W t) t) ≡ code_of (with_masked_skipped W t) t
   past_settled = ap (settled_task (view_of W t)) (code-past W t) ∙ settled-once (view_of W t) (code_of W t) ∙ sym (code-past W t)
 
-  items-past : items_asking (gone_past W t) t ≡ items_asking W t
+  items-past : items_asking (with_masked_skipped W t) t ≡ items_asking W t
   items-past = ap (λ (code : Code). code.todo) (past_settled ∙ code-past W t)
 
-  answer-past : (what : Ask) → answer_to (gone_past W t) t what ≡ answer_to W t what
+  answer-past : (what : Ask) → answer_to (with_masked_skipped W t) t what ≡ answer_to W t what
   answer-past ask.Chunk = ap (λ (items : List Item). answer.Chunk (fitting_chunk (count_asked items) (chunk_dealt W t))) items-past
   answer-past ask.Section = ap (λ (items : List Item). answer.Section (fitting_section (sections_asked items) (section_dealt W t))) items-past
   answer-past (ask.LockFree id) = refl
 
   module _ (what : Ask) (tree : Tree) where
     -- what is asked is answered the same, whether or not the task has left out what it goes past
-    answered-again : answered (gone_past W t) t what tree ≡ answered W t what tree
+    answered-again : answered (with_masked_skipped W t) t what tree ≡ answered W t what tree
     answered-again =
         let given = answer_to W t what in
-        ap (answered_by (gone_past W t) t what tree) (answer-past what)
-        ∙ ap (λ (now : World). with_team (sharing now t (share_taken tree given)) (current_region W t) (team_after W t what))
-        (ap (gone_to (gone_past W t) (current W t)) (answered-past W t given) ∙ gone_to-past W t (after_answer (view_of W t) given (moment_of W t)))
+        ap (answered_by (with_masked_skipped W t) t what tree) (answer-past what)
+        ∙ ap (λ (now : World). with_team (with_taken_share now t (share_taken tree given)) (current_region W t) (team_after W t what))
+        (ap (gone_to (with_masked_skipped W t) (current W t)) (answered-past W t given) ∙ gone_to-past W t (after_answer (view_of W t) given (moment_of W t)))
 
     abbrev after : World
     after = answered W t what tree
@@ -181,7 +181,7 @@ module _ (W : World) (t : ℕ) where
     turn-answered room has = record { of_task = has.of_task ∙ sym same-current; of_region = has.of_region ∙ ap (region_of W) (sym same-current) }
 
 -- a board on which the thread's task has gone past what it goes past, and then what it asked was answered
-module _ (old between new : BoardView) (t node : ℕ) (what : Ask) (past : between ≡ record old { world = gone_past old.world t }) (gave : new ≡ record between { world = answered between.world t what (tree_at between.program.trees node); room = record between.room { steps = between.room.steps - 1 } }) where
+module _ (old between new : BoardView) (t node : ℕ) (what : Ask) (past : between ≡ record old { world = with_masked_skipped old.world t }) (gave : new ≡ record between { world = answered between.world t what (tree_at between.program.trees node); room = record between.room { steps = between.room.steps - 1 } }) where
   abbrev replied : BoardView
   replied = record old { world = answered old.world t what (tree_at old.program.trees node); room = record old.room { steps = old.room.steps - 1 } }
 

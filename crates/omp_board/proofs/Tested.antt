@@ -10,7 +10,7 @@ use Rattle.c_model.specs.declared.point.Point.TheVariants as point
 use Rattle.c_model.specs.declared.question.Answer.TheVariants as answer
 use Rattle.c_model.specs.declared.question.Ask.TheVariants as ask
 use Rattle.c_model.specs.declared.view.View.{View}
-use Rattle.c_model.specs.Going.{after_event, answered_at, settled_after_answer}
+use Rattle.c_model.specs.AfterEvents.{after_event, answered_at, settled_after_answer}
 use Rattle.c_model.specs.Occurring.{IsAskOf, IsAskOfNext}
 use Rattle.c_model.specs.Program.{place_of}
 use Rattle.c_model.specs.Step.{items_from_next, settled_task, silent}
@@ -19,15 +19,15 @@ use Rattle.c_model.specs.Task.Item.{TestLock}
 use Rattle.c_model.specs.Task.Outcome.{Occurs}
 use Rattle.c_steps.specs.declared.next.Next.{Next}
 use Rattle.c_steps.specs.declared.next.Next.TheVariants as next
-use Rattle.c_steps.specs.Held.{outcome_at}
+use Rattle.c_steps.specs.ControlView.{outcome_at}
 use Rattle.sync_objects.specs.Answers.{answer_to_may_take}
 use Rattle.omp_model.specs.declared.event.Event.{Event}
 use Rattle.omp_model.specs.declared.event.Halt.{Halt}
 use Rattle.omp_model.specs.State.{Task, World, no_task, task_at, with_task}
 use Rattle.omp_model.specs.Members.{code_of, current, moment_of, view_of}
 use Rattle.omp_model.specs.Changes.{gone_to, owned_by, with_code}
-use Rattle.omp_model.specs.Going.{Going, Happens, Halts, effect_of_point, event_of_point, fault_of_point, going_by, going_in_code, going_to_point, lock_fault, past_point, unless}
-use Rattle.omp_model.specs.Made.{IsMadeWorld}
+use Rattle.omp_model.specs.EventEffects.{Going, Happens, Halts, effect_of_point, event_of_point, fault_of_point, going_by, go_of_code, going_to_point, lock_fault, past_point, unless}
+use Rattle.omp_model.specs.MadeWorld.{IsMadeWorld}
 use Rattle.omp_model.proofs.GonePast.{last-written}
 use Rattle.omp_model.proofs.MadeEvents.{current-below}
 use Rattle.omp_model.proofs.MadeWords.{after-code, after-store}
@@ -98,13 +98,13 @@ module _ (program : TreeView) (W : World) (t : ℕ) (settled : IsSettled W t) (m
   come_told what other comes = let occurs : Occurs what other ≡ Occurs (acquired tree id) tree = comes ∙ occurs_told in cc
 
   -- the Go of the event
-  going-told : going_in_code (run_of program) W t ≡ going_to_point (run_of program) W t now_told (acquired tree id)
-  unfolding going_in_code
+  going-told : go_of_code (run_of program) W t ≡ going_to_point (run_of program) W t now_told (acquired tree id)
+  unfolding go_of_code
   going-told =
       ap (λ (now : Moment). going_by (run_of program) W t now (silent program (view_of W t) now)) (told-settled program W t settled)
       ∙ ap (going_by (run_of program) W t now_told) is-told.occurs
 
-  pub halts_told : (halt : Halt) → lock_fault (answer_to_may_take W.locks.locks id) ≡ Some halt → going_in_code (run_of program) W t ≡ Halts halt
+  pub halts_told : (halt : Halt) → lock_fault (answer_to_may_take W.locks.locks id) ≡ Some halt → go_of_code (run_of program) W t ≡ Halts halt
   unfolding fault_of_point
   halts_told halt fault =
       going-told ∙ ap (λ (fault : Option Halt). unless fault (event_of_point W t (acquired tree id)) (past_point W (effect_of_point (run_of program) W t now_told (acquired tree id)) t now_told (acquired tree id))) fault
@@ -129,7 +129,7 @@ module _ (program : TreeView) (W : World) (t : ℕ) (settled : IsSettled W t) (m
         ∙ ap (λ (tasks : List Task). record (owned_by world_told id (Some (current W t))) { tasks = tasks }) (last-written W.tasks (current W t) _ _)
         ∙ ap (λ (store : Store). record behind { store = store }) is-told.store
 
-    happens-told : going_in_code (run_of program) W t ≡ Happens which behind
+    happens-told : go_of_code (run_of program) W t ≡ Happens which behind
     unfolding fault_of_point effect_of_point
     happens-told = going-told ∙ ap (λ (fault : Option Halt). unless fault which behind) fault
 
@@ -139,5 +139,5 @@ module _ (program : TreeView) (W : World) (t : ℕ) (settled : IsSettled W t) (m
 
     pub went_told : (result : Result Event Halt) (after : World) → IsGoingTo program world_told t (moment_of world_told t) (acquired tree id) result after → IsGoing program W t result after
     went_told result after going =
-        same-before (going_in_code (run_of program) W t) which behind world_told W after result happens-told
+        same-before (go_of_code (run_of program) W t) which behind world_told W after result happens-told
         (subst (λ (by : Going). IsGoingBy by world_told result after) (happens-behind ∙ sym happens-told) going)

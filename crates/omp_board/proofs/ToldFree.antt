@@ -7,7 +7,7 @@ use Rattle.c_model.specs.declared.point.Point.{Point}
 use Rattle.c_model.specs.declared.question.Answer.TheVariants as answer
 use Rattle.c_model.specs.declared.question.Ask.TheVariants as ask
 use Rattle.c_model.specs.declared.view.View.{View}
-use Rattle.c_model.specs.Going.{answered_at, settled_after_answer}
+use Rattle.c_model.specs.AfterEvents.{answered_at, settled_after_answer}
 use Rattle.c_model.proofs.Fitting.{Fits}
 use Rattle.c_model.specs.Step.{settled_task, silent, step_at}
 use Rattle.c_model.specs.Task.{Item, Moment, Outcome, Task as Code}
@@ -15,14 +15,14 @@ use Rattle.c_model.specs.Task.Item.{TestLock}
 use Rattle.c_model.specs.Task.Outcome.{Asks, Ends, Limits, Occurs, StepsTo, Traps}
 use Rattle.c_steps.specs.Passing.{IsEventOfNext}
 use Rattle.omp_model.specs.declared.event.Arrival.{Arrival}
-use Rattle.omp_model.specs.declared.event.Arrival.TheVariants.{Comes}
+use Rattle.omp_model.specs.declared.event.Arrival.TheVariants.{CodeEvent}
 use Rattle.omp_model.specs.declared.event.Event.{Event}
 use Rattle.omp_model.specs.declared.event.Halt.{Halt}
 use Rattle.omp_model.specs.State.{Task, World, no_task}
 use Rattle.omp_model.specs.Members.{code_of, current, moment_of, view_of}
-use Rattle.omp_model.specs.Changes.{gone_past, with_code}
+use Rattle.omp_model.specs.Changes.{with_masked_skipped, with_code}
 use Rattle.omp_model.specs.Gates.{arrival}
-use Rattle.omp_model.specs.Going.{Going, going_by, going_in_code, told}
+use Rattle.omp_model.specs.EventEffects.{Going, going_by, go_of_code, told}
 use Rattle.omp_model.proofs.Arriving.{Arrives, arrives}
 use Rattle.omp_model.proofs.Coming.{comes-told-past}
 use Rattle.omp_model.proofs.GonePast.{code-past, settled-once, silent-past}
@@ -31,12 +31,12 @@ use Rattle.omp_board.specs.Answering.{IsSettled}
 use Rattle.omp_board.specs.Events.{HasComeTo}
 
 -- a code that has left out what it goes past has left it out
-pub past_settled : (W : World) (t : ℕ) → IsSettled (gone_past W t) t
+pub past_settled : (W : World) (t : ℕ) → IsSettled (with_masked_skipped W t) t
 past_settled W t =
     ap (settled_task (view_of W t)) (code-past W t) ∙ (settled-once (view_of W t) (code_of W t) ∙ sym (code-past W t))
 
 -- .. and needs not do so again
-pub past_same : (W : World) (t : ℕ) → IsSettled W t → gone_past W t ≡ W
+pub past_same : (W : World) (t : ℕ) → IsSettled W t → with_masked_skipped W t ≡ W
 past_same W t settled =
     ap (λ (code : Code). with_code W (current W t) code) settled
     ∙ ap (λ (tasks : List Task). record W { tasks = tasks }) (set-get_or W.tasks (current W t) no_task)
@@ -68,8 +68,8 @@ module _ (program : TreeView) (W : World) (t : ℕ) (settled : IsSettled W t) wh
         ∙ told-items program (view_of W t) (code_of W t).todo (moment_of W t) refl (subst AsksNoLock (sym comes ∙ silent-first) none)
 
     -- the Go of what the code comes to
-    pub going_of : going_in_code (run_of program) W t ≡ going_by (run_of program) W t (moment_of W t) outcome
-    unfolding going_in_code
+    pub going_of : go_of_code (run_of program) W t ≡ going_by (run_of program) W t (moment_of W t) outcome
+    unfolding go_of_code
     going_of =
         ap (λ (now : Moment). going_by (run_of program) W t now (silent program (view_of W t) now)) told-same
         ∙ ap (going_by (run_of program) W t (moment_of W t)) comes
@@ -95,14 +95,14 @@ go-fits (Limits limit) fits = tt
 
 -- The thread's task has left out what it goes past, before which its code comes to this.
 module _ (program : TreeView) (W : World) (t : ℕ) (outcome : Outcome) (comes : outcome ≡ silent program (view_of W t) (moment_of W t)) (none : AsksNoLock outcome) where
-  pub going_past : going_in_code (run_of program) (gone_past W t) t ≡ going_by (run_of program) (gone_past W t) t (moment_of (gone_past W t) t) outcome
-  going_past = going_of program (gone_past W t) t (past_settled W t) outcome (silent-past W t program ∙ sym comes) none
+  pub going_past : go_of_code (run_of program) (with_masked_skipped W t) t ≡ going_by (run_of program) (with_masked_skipped W t) t (moment_of (with_masked_skipped W t) t) outcome
+  going_past = going_of program (with_masked_skipped W t) t (past_settled W t) outcome (silent-past W t program ∙ sym comes) none
 
-  pub goes_past : arrival W t ≡ Comes → IsGo outcome
-  goes_past is = go-fits outcome (fits_of program (gone_past W t) t (past_settled W t) outcome (silent-past W t program ∙ sym comes) none (comes-told-past W t program is))
+  pub goes_past : arrival W t ≡ CodeEvent → IsGo outcome
+  goes_past is = go-fits outcome (fits_of program (with_masked_skipped W t) t (past_settled W t) outcome (silent-past W t program ∙ sym comes) none (comes-told-past W t program is))
 
 -- A board before and after a look at what stands next, which is an event.
-module _ (board now : BoardView) (t : ℕ) (what : Point) (node : ℕ) (still : now ≡ record board { world = gone_past board.world t }) (occurs : Occurs what (tree_at board.program.trees node) ≡ silent board.program (view_of board.world t) (moment_of board.world t)) where
+module _ (board now : BoardView) (t : ℕ) (what : Point) (node : ℕ) (still : now ≡ record board { world = with_masked_skipped board.world t }) (occurs : Occurs what (tree_at board.program.trees node) ≡ silent board.program (view_of board.world t) (moment_of board.world t)) where
   pub come_past : 1 ≤ current board.world t → IsEventOfNext board.program what node (code_of now.world t).todo → HasComeTo now.program now.world t what node
   come_past some named =
       subst (λ (now : BoardView). HasComeTo now.program now.world t what node) (sym still) (record {
@@ -112,15 +112,15 @@ module _ (board now : BoardView) (t : ℕ) (what : Point) (node : ℕ) (still : 
         event = subst (λ (now : BoardView). IsEventOfNext board.program what node (code_of now.world t).todo) still named;
       })
 
-  pub went_past : (result : Result Event Halt) (after : World) → IsGoingTo now.program now.world t (moment_of now.world t) what result after → IsGoing board.program (gone_past board.world t) t result after
+  pub went_past : (result : Result Event Halt) (after : World) → IsGoingTo now.program now.world t (moment_of now.world t) what result after → IsGoing board.program (with_masked_skipped board.world t) t result after
   went_past result after going =
-      let past = gone_past board.world t in
+      let past = with_masked_skipped board.world t in
       subst (λ (by : Going). IsGoingBy by past result after) (sym (going_past board.program board.world t (Occurs what (tree_at board.program.trees node)) occurs tt))
       (subst (λ (now : BoardView). IsGoingTo now.program now.world t (moment_of now.world t) what result after) still going)
 
-some-of : (W : World) (t : ℕ) (came : Arrival) → came ≡ Comes → Arrives W t came → 1 ≤ current W t
+some-of : (W : World) (t : ℕ) (came : Arrival) → came ≡ CodeEvent → Arrives W t came → 1 ≤ current W t
 some-of W t came is at = (subst (Arrives W t) is at).within.some
 
 -- a thread that comes to an event of its code has a task
-pub some_comes : (W : World) (t : ℕ) → arrival W t ≡ Comes → 1 ≤ current W t
+pub some_comes : (W : World) (t : ℕ) → arrival W t ≡ CodeEvent → 1 ≤ current W t
 some_comes W t is = some-of W t (arrival W t) is (arrives W t)

@@ -5,11 +5,11 @@ use Rattle.c_model.specs.declared.question.Answer.{Answer}
 use Rattle.c_model.specs.declared.question.Ask.{Ask}
 use Rattle.c_model.specs.declared.view.View.{View}
 use Rattle.c_model.specs.Asked.{count_asked, sections_asked}
-use Rattle.c_model.specs.Going.{settled_after_answer}
+use Rattle.c_model.specs.AfterEvents.{settled_after_answer}
 use Rattle.c_model.specs.Step.{settled_task, silent}
 use Rattle.c_model.specs.Task.{Moment}
 use Rattle.c_steps.specs.declared.next.Next.{Next}
-use Rattle.c_steps.specs.Held.{outcome_at}
+use Rattle.c_steps.specs.ControlView.{outcome_at}
 use Rattle.omp_model.specs.State.{World, task_at}
 use Rattle.omp_model.specs.Members.{code_of, current, current_region, moment_of, view_of}
 use Rattle.omp_model.specs.Changes.{gone_to, with_team}

@@ -22,8 +22,8 @@ use Rattle.omp_model.specs.Gates.{arrival}
 use Rattle.omp_model.specs.Members.{current, current_region, view_of}
 use Rattle.omp_model.specs.declared.event.Arrival.TheVariants.{Steps}
 use Rattle.omp_model.specs.Silent.{Goes, Stops, silent_step}
-use Rattle.omp_model.specs.Going.{Going, Happens, Halts, going_beside, going_in_code, going_to_point}
-use Rattle.omp_model.specs.Changes.{gone_past}
+use Rattle.omp_model.specs.EventEffects.{Going, Happens, Halts, go_of_runtime, go_of_code, going_to_point}
+use Rattle.omp_model.specs.Changes.{with_masked_skipped}
 use Rattle.omp_board.specs.contracts.thread.Thread as thread
 use Rattle.omp_board.specs.Codes.{store_code, task_code}
 use Rattle.omp_board.specs.Tasks.{TasksView}
@@ -135,7 +135,7 @@ run_of program = record { program = program; mask = 0; threads = 0; steps = 0 }
 -- what a silent step answers, and the world after it
 abbrev pub IsSilence : TreeView → World → ℕ → Result (Unit {0}) Halt → World → Type 0
 IsSilence program W t (Ok it) after = silent_step (run_of program) W t ≡ Goes after
-IsSilence program W t (Err halt) after = (silent_step (run_of program) W t ≡ Stops halt) × (after ≡ gone_past W t)
+IsSilence program W t (Err halt) after = (silent_step (run_of program) W t ≡ Stops halt) × (after ≡ with_masked_skipped W t)
 
 -- what the Go of an event answers, and the world after it: of an event of the code that the thread has come to, in a world in which its task has left
 -- out what it goes past; of one at this point; and of one beside all code
@@ -144,13 +144,13 @@ IsGoingBy going W (Ok event) after = going ≡ Happens event after
 IsGoingBy going W (Err halt) after = (going ≡ Halts halt) × (after ≡ W)
 
 abbrev pub IsGoing : TreeView → World → ℕ → Result Event Halt → World → Type 0
-IsGoing program W t answer after = IsGoingBy (going_in_code (run_of program) W t) W answer after
+IsGoing program W t answer after = IsGoingBy (go_of_code (run_of program) W t) W answer after
 
 abbrev pub IsGoingTo : TreeView → World → ℕ → Moment → Point → Result Event Halt → World → Type 0
 IsGoingTo program W t now what answer after = IsGoingBy (going_to_point (run_of program) W t now what) W answer after
 
 abbrev pub IsGoingBeside : World → ℕ → Event → Result Event Halt → World → Type 0
-IsGoingBeside W t which answer after = IsGoingBy (going_beside W t which) W answer after
+IsGoingBeside W t which answer after = IsGoingBy (go_of_runtime W t which) W answer after
 
 -- the run of a program with so many threads, in what its first world depends on
 abbrev pub run_in : TreeView → ℕ → Run

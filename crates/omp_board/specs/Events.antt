@@ -16,7 +16,7 @@ use Rattle.omp_model.specs.declared.event.Event.TheVariants as event
 use Rattle.omp_model.specs.declared.event.Halt.{Halt}
 use Rattle.omp_model.specs.State.{World}
 use Rattle.omp_model.specs.Members.{code_of, current, current_region, moment_of, view_of}
-use Rattle.omp_model.specs.Going.{single_kind}
+use Rattle.omp_model.specs.EventEffects.{single_kind}
 use Rattle.omp_board.specs.Answering.{IsSettled}
 use Rattle.omp_board.specs.Board.{BoardRoom, BoardView}
 use Rattle.omp_board.specs.Tasks.{HasCells}

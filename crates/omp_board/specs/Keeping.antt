@@ -3,8 +3,8 @@ use Rattle.std.specs.Prelude.{ℕ, ◌≡◌, ◌+◌, ◌<◌, ◌≤◌, ◌^�
 use Rattle.std.specs.List.{All}
 use Rattle.c_syntax.specs.language.Numbered.{TreeView}
 use Rattle.c_model.specs.Begin.{main_task}
-use Rattle.c_steps.specs.Held.{Held, task_at}
-use Rattle.c_steps.specs.Made.{IsMadeFor}
+use Rattle.c_steps.specs.ControlView.{ControlView, task_at}
+use Rattle.c_steps.specs.OfProgram.{IsMadeFor}
 use Rattle.omp_model.specs.State.{Task as Seen}
 use Rattle.omp_board.specs.declared.task.Task.{Task}
 use Rattle.omp_board.specs.Tasks.{TaskRoom, code_of}
@@ -23,24 +23,24 @@ kept_nothing = record { control = None; thread = 0; forked = 0; word = 0 }
 
 -- a task without code, and behind it the initial one, before its first step
 pub record AreFirst (program : TreeView) (tasks : List Task) : Type 0 where
-  pub main : Held
+  pub main : ControlView
   pub made : IsMadeFor program main
   pub stands : task_at program main ≡ main_task program
   pub tasks_are : tasks ≡ kept_nothing ∷ record kept_nothing { control = Some main } ∷ []
 
-abbrev pub control_at : List Task → ℕ → Option Held
+abbrev pub control_at : List Task → ℕ → Option ControlView
 control_at tasks k = (slice_index_or tasks k kept_nothing).control
 
 abbrev pub IsOfProgram : TreeView → Task → Type 0
 IsOfProgram program task = IfSome task.control (IsMadeFor program)
 
 -- the control has the room that is said
-pub record HasRoomIn (room : TaskRoom) (held : Held) : Type 0 where
+pub record HasRoomIn (room : TaskRoom) (held : ControlView) : Type 0 where
   pub steps : room.steps ≤ held.spare
   pub passes : room.passes ≤ held.passes
 
 -- each control is of the program, and there is as much room as is said, for a task that there is
-pub record IsKept (program : TreeView) (tasks : List Task) (capacity : ℕ) (blanks : List Held) (room : TaskRoom) : Type 0 where
+pub record IsKept (program : TreeView) (tasks : List Task) (capacity : ℕ) (blanks : List ControlView) (room : TaskRoom) : Type 0 where
   pub controls : All (IsOfProgram program) tasks
   pub blanks_made : All (IsMadeFor program) blanks
   pub spare : room.tasks ≤ length blanks

@@ -15,7 +15,7 @@ use Rattle.c_model.specs.Upcoming.{upcoming_of}
 use Rattle.c_model.specs.declared.upcoming.Upcoming.TheVariants as upcoming
 use Rattle.c_model.specs.declared.view.View.{View}
 use Rattle.c_syntax.specs.language.Numbered.{tree_at}
-use Rattle.c_steps.specs.Held.{Held, task_at}
+use Rattle.c_steps.specs.ControlView.{ControlView, task_at}
 use Rattle.c_steps.specs.Passing.{IsEventOfNext}
 use Rattle.c_steps.specs.declared.next.Next.{Next}
 use Rattle.c_steps.specs.declared.next.Next.TheVariants as next
@@ -128,12 +128,12 @@ IsNamedIn program (next.Ask ask node) todo = IsAskOfNext ask (tree_at program.tr
 IsNamedIn program other todo = Unit {0}
 
 -- the code that a control stands for. Where none is kept there is no code
-abbrev pub code_of : TreeView → Option Held → Code
+abbrev pub code_of : TreeView → Option ControlView → Code
 code_of program None = blank_task
 code_of program (Some held) = task_at program held
 
 -- .. with the store
-abbrev pub moment_of : TreeView → Option Held → Store → Moment
+abbrev pub moment_of : TreeView → Option ControlView → Store → Moment
 moment_of program control store = record { task = code_of program control; store = store }
 
 -- the explicit task that the construct creates that stands next, with the store behind it; and that there is room for its cells

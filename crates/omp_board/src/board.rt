@@ -13,7 +13,6 @@ ghost use Rattle.c_steps.specs.Scopes.{HasNumbers};
 mod arrival;
 mod coming;
 mod effects;
-mod going;
 mod locks;
 mod meeting;
 mod regions;

@@ -1,20 +1,23 @@
 //! The call of an event.
 
 ghost use Rattle.std.specs.Prelude.{◌≡◌};
+ghost use Rattle.c_model.specs.declared.point.MutexKind.TheVariants as mutex;
+ghost use Rattle.ompt_calls.specs.declared.call.Call.TheVariants as call;
+ghost use Rattle.omp_model.specs.declared.event.Event.TheVariants as event;
 ghost use Rattle.omp_model.specs.Calls as calls;
-ghost use Rattle.omp_model.specs.Words as words;
 
 use crate::board::{Board, sync_number};
+use crate::call_parts::{
+    endpoint_number, mutex_number, null_word, own_region_word, own_task_word, synced_region,
+    thread_kind, work_number,
+};
 use crate::frames::current_frame;
 use crate::levels::task_flags;
 use c_model::{MutexKind, SyncKind, SyncStage, WorkKind};
 use omp_codes::task_flags::{IMPLICIT, INITIAL};
-use omp_codes::{
-    callbacks, dispatch_kinds, endpoints, mutex_kinds, parallel_flags, task_statuses, thread_kinds,
-    work_kinds,
-};
+use omp_codes::{callbacks, dispatch_kinds, endpoints, parallel_flags, task_statuses};
 use omp_model::{Endpoint, Event, IMPLICIT_REGION, INITIAL_TASK, Share};
-use ompt_calls::{Call, Word};
+use ompt_calls::Call;
 
 /// The callback of the event that has just occurred on the thread, with its arguments (OpenMP 5.2, 19.5.2).
 #[tactic(auto, unfolding(omp_model::specs::Calls::call_of))]
@@ -22,101 +25,35 @@ pub fn call_of(board: &Board, thread: u8, event: Event) -> Call
     ensures { result ≡ calls.call_of board.now.world thread event }
 {
     match event {
-        Event::ThreadBegin => Call::ThreadBegin {
-            kind: thread_kind(thread),
-            thread: board.thread_word(thread),
-        },
+        Event::ThreadBegin => thread_begin(board, thread),
         Event::ThreadEnd => Call::ThreadEnd {
             thread: board.thread_word(thread),
         },
-        Event::InitialTaskBegin => Call::ImplicitTask {
-            endpoint: endpoints::BEGIN,
-            region: board.region_word(IMPLICIT_REGION),
-            task: board.task_word(INITIAL_TASK),
-            actual: 1,
-            index: 1,
-            flags: INITIAL,
-        },
-        Event::InitialTaskEnd => Call::ImplicitTask {
-            endpoint: endpoints::END,
-            region: null_word(),
-            task: board.task_word(INITIAL_TASK),
-            actual: 0,
-            index: 1,
-            flags: INITIAL,
-        },
+        Event::InitialTaskBegin => initial_begin(board),
+        Event::InitialTaskEnd => initial_end(board),
         Event::ParallelBegin {
             region,
             requested,
             codeptr,
-        } => Call::ParallelBegin {
-            task: own_task_word(board, thread),
-            frame: current_frame(board, thread, event),
-            region: board.region_word(region),
-            requested,
-            flags: parallel_flags::TEAM_OF_PROGRAM,
+        } => region_begin(board, thread, region, requested, codeptr),
+        Event::ParallelEnd { region, codeptr } => region_end(board, thread, region, codeptr),
+        Event::MemberBegin { region, task } => member_begin(board, thread, region, task),
+        Event::MemberEnd { region, task } => member_end(board, thread, region, task),
+        Event::TaskCreate {
+            task,
+            undeferred,
             codeptr,
-        },
-        Event::ParallelEnd { region, codeptr } => Call::ParallelEnd {
-            region: board.region_word(region),
-            task: own_task_word(board, thread),
-            flags: parallel_flags::TEAM_OF_PROGRAM,
-            codeptr,
-        },
-        Event::MemberBegin { region, task } => Call::ImplicitTask {
-            endpoint: endpoints::BEGIN,
-            region: board.region_word(region),
-            task: board.task_word(task),
-            actual: u32::from(board.size(region)),
-            index: u32::from(board.member_index(thread, region)),
-            flags: IMPLICIT,
-        },
-        Event::MemberEnd { region, task } => Call::ImplicitTask {
-            endpoint: endpoints::END,
-            region: null_word(),
-            task: board.task_word(task),
-            actual: 0,
-            index: u32::from(board.member_index(thread, region)),
-            flags: IMPLICIT,
-        },
-        Event::TaskCreate { task, codeptr, .. } => Call::TaskCreate {
-            task: own_task_word(board, thread),
-            frame: current_frame(board, thread, event),
-            fresh: board.task_word(task),
-            flags: task_flags(board.kind(task)),
-            has_dependences: 0,
-            codeptr,
-        },
-        Event::TaskBegin { prior, task } => Call::TaskSchedule {
-            prior: board.task_word(prior),
-            status: task_statuses::SWITCH,
-            next: board.task_word(task),
-        },
-        Event::TaskEnd { task } => Call::TaskSchedule {
-            prior: board.task_word(task),
-            status: task_statuses::COMPLETE,
-            next: own_task_word(board, thread),
-        },
+        } => task_create(board, thread, task, undeferred, codeptr),
+        Event::TaskBegin { prior, task } => task_begin(board, prior, task),
+        Event::TaskEnd { task } => task_end(board, thread, task),
         Event::Work {
             endpoint,
             kind,
             count,
             codeptr,
-        } => Call::Work {
-            kind: work_number(kind),
-            endpoint: endpoint_number(endpoint),
-            region: own_region_word(board, thread),
-            task: own_task_word(board, thread),
-            count,
-            codeptr,
-        },
+        } => work_call(board, thread, endpoint, kind, count, codeptr),
         Event::Dispatch(share) => dispatch_call(board, thread, share),
-        Event::Masked { endpoint, codeptr } => Call::Masked {
-            endpoint: endpoint_number(endpoint),
-            region: own_region_word(board, thread),
-            task: own_task_word(board, thread),
-            codeptr,
-        },
+        Event::Masked { endpoint, codeptr } => masked_call(board, thread, endpoint, codeptr),
         Event::Sync {
             kind,
             stage,
@@ -126,121 +63,261 @@ pub fn call_of(board: &Board, thread: u8, event: Event) -> Call
             kind,
             wait_id,
             codeptr,
-        } => Call::MutexAcquire {
-            kind: mutex_number(kind),
-            hint: 0,
-            variant: 0,
-            wait_id,
-            codeptr,
-        },
+        } => mutex_acquire(kind, wait_id, codeptr),
         Event::MutexAcquired {
             kind,
             wait_id,
             codeptr,
-        } => Call::MutexAcquired {
-            kind: mutex_number(kind),
-            wait_id,
-            codeptr,
-        },
+        } => mutex_acquired(kind, wait_id, codeptr),
         Event::MutexReleased {
             kind,
             wait_id,
             codeptr,
-        } => Call::MutexReleased {
-            kind: mutex_number(kind),
-            wait_id,
-            codeptr,
-        },
-        Event::LockInit { wait_id, codeptr } => Call::LockInit {
-            kind: mutex_number(MutexKind::Lock),
-            hint: 0,
-            variant: 0,
-            wait_id,
-            codeptr,
-        },
-        Event::LockDestroy { wait_id, codeptr } => Call::LockDestroy {
-            kind: mutex_number(MutexKind::Lock),
-            wait_id,
-            codeptr,
-        },
+        } => mutex_released(kind, wait_id, codeptr),
+        Event::LockInit { wait_id, codeptr } => lock_init(wait_id, codeptr),
+        Event::LockDestroy { wait_id, codeptr } => lock_destroy(wait_id, codeptr),
     }
 }
 
-/// The kind of a thread.
-fn thread_kind(thread: u8) -> u32
-    ensures { result ≡ calls.thread_kind thread }
+/// The thread begins.
+#[tactic(auto, unfolding(omp_model::specs::Calls::call_of))]
+fn thread_begin(board: &Board, thread: u8) -> Call
+    ensures { result ≡ calls.call_of board.now.world thread event.ThreadBegin }
 {
-    if thread == 0 {
-        thread_kinds::INITIAL
-    } else {
-        thread_kinds::WORKER
+    Call::ThreadBegin {
+        kind: thread_kind(thread),
+        thread: board.thread_word(thread),
     }
 }
 
-/// The end of an interval that an event is at.
-fn endpoint_number(endpoint: Endpoint) -> u32
-    ensures { result ≡ calls.endpoint_number endpoint }
+/// The initial task begins.
+#[tactic(auto, unfolding(omp_model::specs::Calls::call_of))]
+fn initial_begin(board: &Board) -> Call
+    ensures { result ≡ calls.call_of board.now.world 0 event.InitialTaskBegin }
 {
-    match endpoint {
-        Endpoint::Begin => endpoints::BEGIN,
-        Endpoint::End => endpoints::END,
+    Call::ImplicitTask {
+        endpoint: endpoints::BEGIN,
+        region: board.region_word(IMPLICIT_REGION),
+        task: board.task_word(INITIAL_TASK),
+        actual: 1,
+        index: 1,
+        flags: INITIAL,
     }
 }
 
-/// The kind of shared work (`ompt_work_t`, OpenMP 5.2, 19.4.4).
-fn work_number(kind: WorkKind) -> u32
-    ensures { result ≡ calls.work_number kind }
+/// The initial task ends.
+#[tactic(auto, unfolding(omp_model::specs::Calls::call_of))]
+fn initial_end(board: &Board) -> Call
+    ensures { result ≡ calls.call_of board.now.world 0 event.InitialTaskEnd }
 {
-    match kind {
-        WorkKind::Loop => work_kinds::LOOP,
-        WorkKind::Sections => work_kinds::SECTIONS,
-        WorkKind::SingleExecutor => work_kinds::SINGLE_EXECUTOR,
-        WorkKind::SingleOther => work_kinds::SINGLE_OTHER,
+    Call::ImplicitTask {
+        endpoint: endpoints::END,
+        region: null_word(),
+        task: board.task_word(INITIAL_TASK),
+        actual: 0,
+        index: 1,
+        flags: INITIAL,
     }
 }
 
-/// The kind of a lock or critical (`ompt_mutex_t`, OpenMP 5.2, 19.4.4).
-fn mutex_number(kind: MutexKind) -> u32
-    ensures { result ≡ calls.mutex_number kind }
+/// A parallel region is made.
+#[tactic(auto, unfolding(omp_model::specs::Calls::call_of))]
+fn region_begin(board: &Board, thread: u8, region: u32, requested: u32, codeptr: u64) -> Call
+    ensures { result ≡ calls.call_of board.now.world thread (event.ParallelBegin region requested codeptr) }
 {
-    match kind {
-        MutexKind::Lock => mutex_kinds::LOCK,
-        MutexKind::TestLock => mutex_kinds::TEST_LOCK,
-        MutexKind::Critical => mutex_kinds::CRITICAL,
+    let event = Event::ParallelBegin {
+        region,
+        requested,
+        codeptr,
+    };
+    Call::ParallelBegin {
+        task: own_task_word(board, thread),
+        frame: current_frame(board, thread, event),
+        region: board.region_word(region),
+        requested,
+        flags: parallel_flags::TEAM_OF_PROGRAM,
+        codeptr,
     }
 }
 
-/// The data word of the thread's region.
-fn own_region_word(board: &Board, thread: u8) -> Word
-    ensures { result ≡ calls.own_region_word board.now.world thread }
+/// A parallel region is over.
+#[tactic(auto, unfolding(omp_model::specs::Calls::call_of))]
+fn region_end(board: &Board, thread: u8, region: u32, codeptr: u64) -> Call
+    ensures { result ≡ calls.call_of board.now.world thread (event.ParallelEnd region codeptr) }
 {
-    board.region_word(board.current_region(thread))
-}
-
-/// The data word of the thread's current task.
-fn own_task_word(board: &Board, thread: u8) -> Word
-    ensures { result ≡ calls.own_task_word board.now.world thread }
-{
-    board.task_word(board.current(thread))
-}
-
-/// The word of no region and no task.
-fn null_word() -> Word
-    ensures { result ≡ words.null_word }
-{
-    Word {
-        identity: 0,
-        value: 0,
+    Call::ParallelEnd {
+        region: board.region_word(region),
+        task: own_task_word(board, thread),
+        flags: parallel_flags::TEAM_OF_PROGRAM,
+        codeptr,
     }
 }
 
-/// The region that is told at an event of a barrier or taskwait. Where the wait at a region's own barrier ends, and from then on, it is NULL.
-fn synced_region(board: &Board, thread: u8, kind: SyncKind, stage: SyncStage) -> Word
-    ensures { result ≡ calls.synced_region board.now.world thread kind stage }
+/// A member's implicit task begins.
+#[tactic(auto, unfolding(omp_model::specs::Calls::call_of))]
+fn member_begin(board: &Board, thread: u8, region: u32, task: u32) -> Call
+    ensures { result ≡ calls.call_of board.now.world thread (event.MemberBegin region task) }
 {
-    match (kind, stage) {
-        (SyncKind::Parallel, SyncStage::WaitEnd | SyncStage::RegionEnd) => null_word(),
-        _ => own_region_word(board, thread),
+    Call::ImplicitTask {
+        endpoint: endpoints::BEGIN,
+        region: board.region_word(region),
+        task: board.task_word(task),
+        actual: u32::from(board.size(region)),
+        index: u32::from(board.member_index(thread, region)),
+        flags: IMPLICIT,
+    }
+}
+
+/// A member's implicit task ends.
+#[tactic(auto, unfolding(omp_model::specs::Calls::call_of))]
+fn member_end(board: &Board, thread: u8, region: u32, task: u32) -> Call
+    ensures { result ≡ calls.call_of board.now.world thread (event.MemberEnd region task) }
+{
+    Call::ImplicitTask {
+        endpoint: endpoints::END,
+        region: null_word(),
+        task: board.task_word(task),
+        actual: 0,
+        index: u32::from(board.member_index(thread, region)),
+        flags: IMPLICIT,
+    }
+}
+
+/// An explicit task is made.
+#[tactic(auto, unfolding(omp_model::specs::Calls::call_of))]
+fn task_create(board: &Board, thread: u8, task: u32, undeferred: bool, codeptr: u64) -> Call
+    ensures { result ≡ calls.call_of board.now.world thread (event.TaskCreate task undeferred codeptr) }
+{
+    let event = Event::TaskCreate {
+        task,
+        undeferred,
+        codeptr,
+    };
+    Call::TaskCreate {
+        task: own_task_word(board, thread),
+        frame: current_frame(board, thread, event),
+        fresh: board.task_word(task),
+        flags: task_flags(board.kind(task)),
+        has_dependences: 0,
+        codeptr,
+    }
+}
+
+/// The thread goes from a task to an explicit one.
+#[tactic(auto, unfolding(omp_model::specs::Calls::call_of))]
+fn task_begin(board: &Board, prior: u32, task: u32) -> Call
+    ensures { result ≡ calls.call_of board.now.world 0 (event.TaskBegin prior task) }
+{
+    Call::TaskSchedule {
+        prior: board.task_word(prior),
+        status: task_statuses::SWITCH,
+        next: board.task_word(task),
+    }
+}
+
+/// An explicit task ends.
+#[tactic(auto, unfolding(omp_model::specs::Calls::call_of))]
+fn task_end(board: &Board, thread: u8, task: u32) -> Call
+    ensures { result ≡ calls.call_of board.now.world thread (event.TaskEnd task) }
+{
+    Call::TaskSchedule {
+        prior: board.task_word(task),
+        status: task_statuses::COMPLETE,
+        next: own_task_word(board, thread),
+    }
+}
+
+/// The thread's part of a worksharing construct begins or ends.
+#[tactic(auto, unfolding(omp_model::specs::Calls::call_of))]
+fn work_call(
+    board: &Board,
+    thread: u8,
+    endpoint: Endpoint,
+    kind: WorkKind,
+    count: u64,
+    codeptr: u64,
+) -> Call
+    ensures { result ≡ calls.call_of board.now.world thread (event.Work endpoint kind count codeptr) }
+{
+    Call::Work {
+        kind: work_number(kind),
+        endpoint: endpoint_number(endpoint),
+        region: own_region_word(board, thread),
+        task: own_task_word(board, thread),
+        count,
+        codeptr,
+    }
+}
+
+/// The statement of a `masked` begins or ends.
+#[tactic(auto, unfolding(omp_model::specs::Calls::call_of))]
+fn masked_call(board: &Board, thread: u8, endpoint: Endpoint, codeptr: u64) -> Call
+    ensures { result ≡ calls.call_of board.now.world thread (event.Masked endpoint codeptr) }
+{
+    Call::Masked {
+        endpoint: endpoint_number(endpoint),
+        region: own_region_word(board, thread),
+        task: own_task_word(board, thread),
+        codeptr,
+    }
+}
+
+/// A lock or critical is asked for.
+fn mutex_acquire(kind: MutexKind, wait_id: u32, codeptr: u64) -> Call
+    ensures { result ≡ call.MutexAcquire (calls.mutex_number kind) 0 0 wait_id codeptr }
+{
+    Call::MutexAcquire {
+        kind: mutex_number(kind),
+        hint: 0,
+        variant: 0,
+        wait_id,
+        codeptr,
+    }
+}
+
+/// It comes to be owned.
+fn mutex_acquired(kind: MutexKind, wait_id: u32, codeptr: u64) -> Call
+    ensures { result ≡ call.MutexAcquired (calls.mutex_number kind) wait_id codeptr }
+{
+    Call::MutexAcquired {
+        kind: mutex_number(kind),
+        wait_id,
+        codeptr,
+    }
+}
+
+/// It is given back.
+fn mutex_released(kind: MutexKind, wait_id: u32, codeptr: u64) -> Call
+    ensures { result ≡ call.MutexReleased (calls.mutex_number kind) wait_id codeptr }
+{
+    Call::MutexReleased {
+        kind: mutex_number(kind),
+        wait_id,
+        codeptr,
+    }
+}
+
+/// A lock is initialised.
+fn lock_init(wait_id: u32, codeptr: u64) -> Call
+    ensures { result ≡ call.LockInit (calls.mutex_number mutex.Lock) 0 0 wait_id codeptr }
+{
+    Call::LockInit {
+        kind: mutex_number(MutexKind::Lock),
+        hint: 0,
+        variant: 0,
+        wait_id,
+        codeptr,
+    }
+}
+
+/// A lock is destroyed.
+fn lock_destroy(wait_id: u32, codeptr: u64) -> Call
+    ensures { result ≡ call.LockDestroy (calls.mutex_number mutex.Lock) wait_id codeptr }
+{
+    Call::LockDestroy {
+        kind: mutex_number(MutexKind::Lock),
+        wait_id,
+        codeptr,
     }
 }
 

@@ -4,8 +4,8 @@ ghost use Rattle.std.specs.Prelude.{◌≡◌, ◌<◌, ◌≤◌, IfSome, OnErr
 ghost use Rattle.std.specs.List.{All};
 ghost use Rattle.std.specs.Option.{option_copied};
 ghost use Rattle.c_steps.specs.Beginning.{IsCreation};
-ghost use Rattle.c_steps.specs.Made.{IsMadeFor};
-ghost use Rattle.omp_model.specs.Going.{member_code};
+ghost use Rattle.c_steps.specs.OfProgram.{IsMadeFor};
+ghost use Rattle.omp_model.specs.EventEffects.{member_code};
 ghost use Rattle.omp_board.specs.Keeping.{HasRoomIn, IsOfProgram, control_at, seen_tasks};
 ghost use Rattle.omp_board.specs.Tasks.{HasCells, code_of, created_by, moment_of, turn_room};
 

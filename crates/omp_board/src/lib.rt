@@ -5,7 +5,7 @@
 //! - [`Board::new`] gives the first world of a program's run, and [`Board::reserve`] makes room for a turn of a thread;
 //! - [`Board::arrival`] tells what a thread comes to next, or that it has to wait;
 //! - [`Board::step`] makes a silent step, or tells the trap or limit that it meets;
-//! - [`Board::come`] makes the Go of an event of a task's code, and [`Board::meet_event`] that of an event beside all code, or they tell the trap
+//! - [`Board::begin_code_event`] makes the Go of an event of a task's code, and [`Board::begin_runtime_event`] that of an event beside all code, or they tell the trap
 //!   or limit that it meets, and then nothing has changed but that the task has left out what it goes past;
 //! - [`Board::back`] makes what takes hold at the Back of an event's callback;
 //! - [`Board::store`] stores into a data word, and the other calls tell the world;
@@ -28,6 +28,7 @@
 
 mod board;
 mod call;
+mod call_parts;
 mod controls;
 mod frames;
 mod head;

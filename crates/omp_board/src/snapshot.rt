@@ -97,17 +97,7 @@ fn state_of(board: &Board, thread: u8, event: Event) -> u16
         } => wait_state(kind),
         Event::Sync { .. } => OVERHEAD,
         Event::MutexAcquire { kind, .. } => acquire_state(board, thread, kind),
-        Event::InitialTaskBegin
-        | Event::MemberBegin { .. }
-        | Event::TaskCreate { .. }
-        | Event::TaskBegin { .. }
-        | Event::Work { .. }
-        | Event::Dispatch(_)
-        | Event::Masked { .. }
-        | Event::MutexAcquired { .. }
-        | Event::MutexReleased { .. }
-        | Event::LockInit { .. }
-        | Event::LockDestroy { .. } => work_state(board, thread),
+        _ => work_state(board, thread),
     }
 }
 

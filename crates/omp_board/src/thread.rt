@@ -1,7 +1,7 @@
 //! A thread: how far it has come, and the tasks that it has taken up.
 
 ghost use Rattle.std.specs.Prelude.{◌≡◌, ◌<◌, ◌≤◌, ◌-◌, ◌∷◌, [], ℕ, None, drop, length, reverse, slice_index_or, IfOk};
-ghost use Rattle.omp_model.specs.Changes.{summoned};
+ghost use Rattle.omp_model.specs.Changes.{with_invitation};
 ghost use Rattle.omp_model.specs.Snapshots.{lowest_of};
 
 use omp_model::{STACK_LIMIT, Share, ThreadStage};
@@ -178,7 +178,7 @@ impl Thread {
 
     /// The thread is to join the region next. It is made, if it wasn't.
     pub fn summon(&mut self, region: u32)
-        ensures { self.new ≡ summoned region self.old }
+        ensures { self.new ≡ with_invitation region self.old }
     {
         if let ThreadStage::Unmade = self.stage {
             self.stage = ThreadStage::Made;

@@ -7,7 +7,9 @@
 //! Proved for every number, over the definitions of `specs/`:
 //!
 //! - [`set_answer`] is `answer_of`, and [`is_profile`] is `in_profile`;
-//! - [`PROFILE_MASK`] is the mask with the callbacks of [`PROFILE`], and they are those that `in_profile` says, by [`profile_has_its_mask`];
+//! - [`PROFILE`] lists the callbacks that `in_profile` says, by rising numbers, [`PROFILE_MASK`] is the mask with them, and each has a name,
+//!   by [`profile_has_its_mask`]; [`callbacks::COUNT`] is how many they are;
+//! - [`callbacks::name`] is `callback_name`, and the numbers of the callbacks are those of [`callbacks_have_their_numbers`];
 //! - [`next_state`] is `next_of`: the one that follows in the list of the states.
 //!
 //! Tests in `test_calls` compare a few answers with values written out by hand. Nothing here takes memory.
@@ -29,5 +31,7 @@ pub mod thread_states;
 pub mod work_kinds;
 
 pub use answers::set_answer;
-pub use callbacks::{PROFILE, PROFILE_MASK, is_profile, profile_has_its_mask};
+pub use callbacks::{
+    PROFILE, PROFILE_MASK, callbacks_have_their_numbers, is_profile, profile_has_its_mask,
+};
 pub use states::next_state;

@@ -8,7 +8,7 @@ use Rattle.c_model.specs.Task.Outcome.{Asks, Ends, Limits, Occurs, StepsTo, Trap
 use Rattle.omp_model.specs.Members.{view_of}
 use Rattle.omp_model.specs.State.{Run, World}
 use Rattle.omp_model.specs.Silent.{silent_step}
-use Rattle.omp_model.specs.Going.{effect_of_point, event_of_point, fault_of_point, going_by, going_in_code, past_point, told, unless}
+use Rattle.omp_model.specs.EventEffects.{effect_of_point, event_of_point, fault_of_point, going_by, go_of_code, past_point, told, unless}
 use Rattle.omp_board.specs.Board.{run_of}
 
 -- a silent step
@@ -43,6 +43,6 @@ same-by run W t now (Asks ask tree) = refl
 same-by run W t now (Ends number) = refl
 
 -- the Go of an event of the code
-pub same-going : (run : Run) (W : World) (t : ℕ) → going_in_code run W t ≡ going_in_code (run_of run.program) W t
-unfolding going_in_code
+pub same-going : (run : Run) (W : World) (t : ℕ) → go_of_code run W t ≡ go_of_code (run_of run.program) W t
+unfolding go_of_code
 same-going run W t = same-by run W t (told W t) (silent run.program (view_of W t) (told W t))

@@ -10,13 +10,13 @@ use Rattle.omp_model.specs.declared.event.Outcome.{Outcome}
 use Rattle.omp_model.specs.declared.event.Outcome.TheVariants.{Idle, Quiet, Happens, Halts}
 use Rattle.omp_model.specs.State.{Run, State, Thread, first, pending_at, unmade}
 use Rattle.omp_model.specs.Legal.{back, put, put_from}
-use Rattle.omp_model.specs.Made.{IsMadeState}
+use Rattle.omp_model.specs.MadeWorld.{IsMadeState}
 use Rattle.omp_model.specs.Turn.{enabled, turn}
 use Rattle.omp_model.specs.Words.{is_made_thread}
 use Rattle.omp_model.proofs.MadeEvents.{MadeGo}
 use Rattle.omp_model.proofs.MadeRuns.{MadeTurn, first-made, state-back, state-put, state-turn, turn-made}
 use Rattle.omp_model.proofs.Turns.{back-halt, back-turns, turn-below, turn-goes, turn-pending, turns-rise}
-use Rattle.omp_machine.specs.Standing.{IsSound, is_call, went_after, went_of_halt}
+use Rattle.omp_machine.specs.MachineView.{IsSound, is_call, went_after, went_of_halt}
 
 pub sound-first : (run : Run) → 1 ≤ run.threads → IsSound run (first run)
 sound-first run some = record { some = some; turns_left = λ on. omega arith; turns = omega arith; made = first-made run some }

@@ -18,7 +18,7 @@ use Rattle.omp_model.specs.Turn.{turn, called}
 use Rattle.omp_model.specs.Legal.{may, put, put_from}
 use Rattle.omp_model.proofs.Turns.{turn-pending}
 use Rattle.omp_machine.specs.declared.went.Went.TheVariants.{Told}
-use Rattle.omp_machine.specs.Standing.{Standing, went_of}
+use Rattle.omp_machine.specs.MachineView.{MachineView, went_of}
 use Rattle.omp_machine.proofs.Telling.{told-by}
 
 -- the thread is inside a callback of this event, which is registered and whose tool has stored so many words
@@ -115,10 +115,10 @@ pub made-put : (S : State) (t : ℕ) (place other : Target) (word : ℕ) → is_
 made-put S t place other word = made-from S t place other word (pending_at S t)
 
 -- where a turn's answer is that an event was told, a store of a word that is there may stand next
-pub told-may : (before after : Standing) (t : ℕ) (call : Call) (snapshot : Snapshot) (place : Target) (word : ℕ) → after ≡ record before { state = (turn before.run before.state t).state } → went_of before.run before.state t ≡ Told call snapshot → IsSome (pending_at after.state t) → is_made after.state.world place ≡ true → IsTrue (may after.run after.state t (Put place word))
+pub told-may : (before after : MachineView) (t : ℕ) (call : Call) (snapshot : Snapshot) (place : Target) (word : ℕ) → after ≡ record before { state = (turn before.run before.state t).state } → went_of before.run before.state t ≡ Told call snapshot → IsSome (pending_at after.state t) → is_made after.state.world place ≡ true → IsTrue (may after.run after.state t (Put place word))
 told-may before after t call snapshot place word turned is waits made =
-    let next : Standing = record before { state = (turn before.run before.state t).state } in
-    let waiting : IsSome (pending_at next.state t) = subst (λ (m : Standing). IsSome (pending_at m.state t)) turned waits in
-    let there : is_made next.state.world place ≡ true = subst (λ (m : Standing). is_made m.state.world place ≡ true) turned made in
+    let next : MachineView = record before { state = (turn before.run before.state t).state } in
+    let waiting : IsSome (pending_at next.state t) = subst (λ (m : MachineView). IsSome (pending_at m.state t)) turned waits in
+    let there : is_made next.state.world place ≡ true = subst (λ (m : MachineView). is_made m.state.world place ≡ true) turned made in
     let told = told-inside before.run before.state t call snapshot is waiting in
-    subst (λ (m : Standing). IsTrue (may m.run m.state t (Put place word))) (sym turned) (inside-may before.run next.state t told.event 0 place word told.inside (omega arith) there)
+    subst (λ (m : MachineView). IsTrue (may m.run m.state t (Put place word))) (sym turned) (inside-may before.run next.state t told.event 0 place word told.inside (omega arith) there)

@@ -15,7 +15,7 @@ use Rattle.omp_model.specs.Snapshots.{snap_of}
 use Rattle.omp_model.specs.Serial.{inside_after}
 use Rattle.omp_machine.specs.declared.went.Went.{Went}
 use Rattle.omp_machine.specs.declared.went.Went.TheVariants.{Told, Untold}
-use Rattle.omp_machine.specs.Standing.{told, went_of_halt, went_after, is_call}
+use Rattle.omp_machine.specs.MachineView.{told, went_of_halt, went_after, is_call}
 
 -- the event that was told, which is registered
 pub record IsTold (run : Run) (after : State) (t : ℕ) (outcome : Outcome) (call : Call) (snapshot : Snapshot) : Type 0 where

@@ -4,7 +4,7 @@ use Rattle.std.proofs.lemmas.Bool.{lt-leb}
 use Rattle.c_syntax.specs.language.Numbered.{TreeView}
 use Rattle.omp_model.specs.declared.limits.TheConstants.{STEPS, STEPS_OF_A_TURN}
 use Rattle.omp_model.specs.declared.event.Arrival.{Arrival}
-use Rattle.omp_model.specs.declared.event.Arrival.TheVariants.{Waits, Steps, Comes, Meets}
+use Rattle.omp_model.specs.declared.event.Arrival.TheVariants.{Waits, Steps, CodeEvent, RuntimeEvent}
 use Rattle.omp_model.specs.declared.event.Event.{Event}
 use Rattle.omp_model.specs.declared.event.Halt.{Halt}
 use Rattle.omp_model.specs.declared.event.Halt.TheVariants.{Limit}
@@ -18,14 +18,14 @@ use Rattle.omp_board.specs.Board as boards
 use Rattle.omp_board.specs.Tasks.{steps_ahead}
 use Rattle.omp_machine.specs.State.{HaveStepped, SameCounts, StateView, board_of}
 use Rattle.omp_machine.proofs.Programs.{same-silence}
-use Rattle.omp_model.specs.Turn.{Walk, after_steps, after_walk, going_past, stepped, unlimited, walk, walk_by, walk_on, walked}
+use Rattle.omp_model.specs.Turn.{Walk, after_steps, after_walk, state_past_masked, stepped, unlimited, walk, walk_by, walk_on, walked}
 
 -- where no step stands next, the walk is over
 on-rest : (run : Run) (S : State) (t made : ℕ) (next : Arrival) (more : World → Walk) → (next ≡ Steps → ⊥) → walk_on run S t made next more ≡ walked S made None
 on-rest run S t made Waits more rest = refl
 on-rest run S t made Steps more rest = absurd (rest refl)
-on-rest run S t made Comes more rest = refl
-on-rest run S t made (Meets event) more rest = refl
+on-rest run S t made CodeEvent more rest = refl
+on-rest run S t made (RuntimeEvent event) more rest = refl
 
 pub walk-at_rest : (run : Run) (left made : ℕ) (S : State) (t : ℕ) → (arrival S.world t ≡ Steps → ⊥) → walk run left made S t ≡ walked S made None
 unfolding walk
@@ -45,16 +45,16 @@ by-steps run left made S t next = ap (λ a. walk_on run S t made a (λ after. wa
 pub walk-spent : (run : Run) (left made : ℕ) (S : State) (t : ℕ) → arrival S.world t ≡ Steps → nat_le run.steps S.steps ≡ true → walk run (suc left) made S t ≡ walked S made (Some (Limit STEPS))
 walk-spent run left made S t next spent = by-steps run left made S t next ∙ rw spent refl
 
-by-silence : (run : Run) (left made : ℕ) (S : State) (t : ℕ) → arrival S.world t ≡ Steps → nat_le run.steps S.steps ≡ false → walk run (suc left) made S t ≡ walk_by (going_past S t) made (silent_step run S.world t) (λ after. walk run left (made + 1) (stepped S after) t)
+by-silence : (run : Run) (left made : ℕ) (S : State) (t : ℕ) → arrival S.world t ≡ Steps → nat_le run.steps S.steps ≡ false → walk run (suc left) made S t ≡ walk_by (state_past_masked S t) made (silent_step run S.world t) (λ after. walk run left (made + 1) (stepped S after) t)
 by-silence run left made S t next more = by-steps run left made S t next ∙ rw more refl
 
 pub walk-goes : (run : Run) (left made : ℕ) (S : State) (t : ℕ) (after : World) → arrival S.world t ≡ Steps → nat_le run.steps S.steps ≡ false → silent_step run S.world t ≡ Goes after → walk run (suc left) made S t ≡ walk run left (made + 1) (stepped S after) t
 walk-goes run left made S t after next more goes =
-    by-silence run left made S t next more ∙ ap (λ silence. walk_by (going_past S t) made silence (λ after. walk run left (made + 1) (stepped S after) t)) goes
+    by-silence run left made S t next more ∙ ap (λ silence. walk_by (state_past_masked S t) made silence (λ after. walk run left (made + 1) (stepped S after) t)) goes
 
-pub walk-stops : (run : Run) (left made : ℕ) (S : State) (t : ℕ) (halt : Halt) → arrival S.world t ≡ Steps → nat_le run.steps S.steps ≡ false → silent_step run S.world t ≡ Stops halt → walk run (suc left) made S t ≡ walked (going_past S t) made (Some halt)
+pub walk-stops : (run : Run) (left made : ℕ) (S : State) (t : ℕ) (halt : Halt) → arrival S.world t ≡ Steps → nat_le run.steps S.steps ≡ false → silent_step run S.world t ≡ Stops halt → walk run (suc left) made S t ≡ walked (state_past_masked S t) made (Some halt)
 walk-stops run left made S t halt next more stops =
-    by-silence run left made S t next more ∙ ap (λ silence. walk_by (going_past S t) made silence (λ after. walk run left (made + 1) (stepped S after) t)) stops
+    by-silence run left made S t next more ∙ ap (λ silence. walk_by (state_past_masked S t) made silence (λ after. walk run left (made + 1) (stepped S after) t)) stops
 
 -- the steps that are left, counted by one
 pub left-suc : (most made : ℕ) → made < most → most - made ≡ suc (most - (made + 1))
@@ -69,7 +69,7 @@ walk-over run most made S t reached within =
     rw (none, all)
 
 -- what is waits, or an event, is no step
-pub no-step : (next : Arrival) → (next ≡ Waits) ⊎ ((next ≡ Comes) ⊎ ((event : Event) × next ≡ Meets event)) → next ≡ Steps → ⊥
+pub no-step : (next : Arrival) → (next ≡ Waits) ⊎ ((next ≡ CodeEvent) ⊎ ((event : Event) × next ≡ RuntimeEvent event)) → next ≡ Steps → ⊥
 no-step next (inl waits) steps = cc
 no-step next (inr (inl comes)) steps = cc
 no-step next (inr (inr (event, meets))) steps = cc

@@ -10,7 +10,7 @@ ghost use Rattle.omp_model.specs.Legal.{back, may, put};
 ghost use Rattle.omp_model.specs.declared.history.What.TheVariants.{Put};
 ghost use Rattle.omp_model.specs.Serial.{enabled_among, first_enabled};
 ghost use Rattle.omp_model.specs.Cause.{whole_value, is_stuck, cause_of_value, cause_of_halt, cause_in};
-ghost use Rattle.omp_machine.specs.Standing.{Standing, went_of, is_call};
+ghost use Rattle.omp_machine.specs.MachineView.{MachineView, went_of, is_call};
 
 use crate::ready::Ready;
 use crate::settings::Settings;
@@ -41,9 +41,9 @@ pub struct Machine {
 
 impl Model for Machine {
     ghost use Rattle.omp_machine.specs.State.{run_in};
-    ghost use Rattle.omp_machine.specs.Standing.{Standing, IsSound, standing_code};
+    ghost use Rattle.omp_machine.specs.MachineView.{MachineView, IsSound, standing_code};
 
-    ghost Value = { Standing };
+    ghost Value = { MachineView };
 
     ghost coded = { standing_code };
 

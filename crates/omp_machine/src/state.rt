@@ -6,17 +6,17 @@ ghost use Rattle.omp_model.specs.State.{Run, first, pending_at};
 ghost use Rattle.omp_model.specs.Cause.{none_pending, whole_value};
 ghost use Rattle.omp_model.specs.Gates.{arrival};
 ghost use Rattle.omp_model.specs.Legal.{back, put};
-ghost use Rattle.omp_model.specs.Made.{IsMadeWorld};
+ghost use Rattle.omp_model.specs.MadeWorld.{IsMadeWorld};
 ghost use Rattle.omp_model.specs.Members.{view_of};
 ghost use Rattle.omp_model.specs.Turn as turns;
 ghost use Rattle.omp_model.specs.declared.event.Arrival.TheVariants.{Steps};
 ghost use Rattle.omp_model.specs.declared.limits.TheConstants.{STEPS_OF_A_TURN};
-ghost use Rattle.omp_model.specs.Turn.{after_steps, called, enabled, going_past, halted, stepped, turn, unlimited, walk};
+ghost use Rattle.omp_model.specs.Turn.{after_steps, called, enabled, state_past_masked, halted, stepped, turn, unlimited, walk};
 ghost use Rattle.omp_model.specs.Words.{is_made};
 ghost use Rattle.omp_board.specs.Board.{HasEvent, HasStep, HasStepsAhead, HasTurn, IsSilence};
 ghost use Rattle.omp_board.specs.Tasks.{steps_ahead};
 ghost use Rattle.omp_machine.specs.State.{HaveStepped, SameCounts, happened, run_in};
-ghost use Rattle.omp_machine.specs.Standing.{went_after};
+ghost use Rattle.omp_machine.specs.MachineView.{went_after};
 
 use crate::settings::Settings;
 use crate::went::{Went, told};
@@ -207,7 +207,7 @@ impl State {
         requires countable { self.old.state.steps + 1 < 2 ^ 32 }
         ensures silence { IsSilence self.old.program self.old.state.world thread result self.new.state.world }
         ensures counted { OnOk result (self.new.state ≡ stepped self.old.state self.new.state.world) }
-        ensures halted { OnErr result (self.new.state ≡ going_past self.old.state thread) }
+        ensures halted { OnErr result (self.new.state ≡ state_past_masked self.old.state thread) }
         ensures program { self.new.program ≡ self.old.program }
         ensures room { self.new.room ≡ record self.old.room { steps = self.new.room.steps } }
         ensures steps { self.old.room.steps ≤ self.new.room.steps + 1 }
@@ -377,12 +377,12 @@ impl State {
                     Outcome::Idle
                 }
             }
-            Arrival::Comes => {
-                let went = self.board.come(thread);
+            Arrival::CodeEvent => {
+                let went = self.board.begin_code_event(thread);
                 self.happen(thread, went)
             }
-            Arrival::Meets(event) => {
-                let went = self.board.meet_event(thread, event);
+            Arrival::RuntimeEvent(event) => {
+                let went = self.board.begin_runtime_event(thread, event);
                 self.happen(thread, went)
             }
         }
@@ -402,7 +402,7 @@ impl State {
     {
         match next {
             Arrival::Steps => self.silent_first(limit, thread),
-            Arrival::Waits | Arrival::Comes | Arrival::Meets(_) => {
+            Arrival::Waits | Arrival::CodeEvent | Arrival::RuntimeEvent(_) => {
                 self.after_steps(thread, 0, next)
             }
         }
@@ -522,7 +522,7 @@ fn goes_on(arrival: Arrival) -> bool
 {
     match arrival {
         Arrival::Waits => false,
-        Arrival::Steps | Arrival::Comes | Arrival::Meets(_) => true,
+        Arrival::Steps | Arrival::CodeEvent | Arrival::RuntimeEvent(_) => true,
     }
 }
 

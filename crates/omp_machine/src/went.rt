@@ -3,7 +3,7 @@
 ghost use Rattle.std.specs.Prelude.{◌≡◌, IsSome};
 ghost use Rattle.omp_model.specs.Calls as calls;
 ghost use Rattle.omp_model.specs.Snapshots.{snap_of};
-ghost use Rattle.omp_machine.specs.Standing.{told};
+ghost use Rattle.omp_machine.specs.MachineView.{told};
 
 use omp_board::{Board, Levels, call_of, callback_of, snapshot_of};
 use omp_model::Event;

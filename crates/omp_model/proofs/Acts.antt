@@ -6,18 +6,18 @@ use Rattle.task_pool.specs.declared.task.TaskKind.TheVariants as kind
 use Rattle.task_pool.specs.Tasks.{is_finished}
 use Rattle.omp_model.specs.declared.history.Entry.{Entry}
 use Rattle.omp_model.specs.declared.limits.TheConstants.{INITIAL_TASK}
-use Rattle.omp_model.specs.declared.event.Arrival.TheVariants.{Meets}
+use Rattle.omp_model.specs.declared.event.Arrival.TheVariants.{RuntimeEvent}
 use Rattle.omp_model.specs.declared.event.Callback.{Callback}
 use Rattle.omp_model.specs.declared.event.Event.{Event}
 use Rattle.omp_model.specs.declared.event.Event.TheVariants as event
 use Rattle.omp_model.specs.State.{Run, World, pending_at, pooled_at, region_at, task_at}
 use Rattle.omp_model.specs.Members.{current}
 use Rattle.omp_model.specs.Gates.{arrival}
-use Rattle.omp_model.specs.Changes.{popped, taken_up}
-use Rattle.omp_model.specs.Going.{member_code}
+use Rattle.omp_model.specs.Changes.{without_current_task, taken_up}
+use Rattle.omp_model.specs.EventEffects.{member_code}
 use Rattle.omp_model.specs.Turn.{walk}
 use Rattle.omp_model.specs.Legal.{after}
-use Rattle.omp_model.specs.Made.{IsMadeWorld}
+use Rattle.omp_model.specs.MadeWorld.{IsMadeWorld}
 use Rattle.omp_model.specs.Conditions.{AreOrderly, BackActs, EventOrderly, GoActs, PendingOrderly, Starts, member_made}
 use Rattle.omp_model.proofs.Arriving.{Arrives, Reached, arrives}
 use Rattle.omp_model.proofs.Guards.{made-walk}
@@ -36,9 +36,9 @@ go-acts : (W : World) (t : ℕ) (e : Event) → AreOrderly W → IsMadeWorld W �
 go-acts W t event.InitialTaskBegin all made at = started-is (taken_up W t INITIAL_TASK) INITIAL_TASK (ap is_finished at.condition)
 go-acts W t event.InitialTaskEnd all made at =
     let first = all.alone (current W t) at.kind in
-    finished-is (popped W t) INITIAL_TASK (ending W t INITIAL_TASK all (record { task = sym first; some = omega arith })).started
+    finished-is (without_current_task W t) INITIAL_TASK (ending W t INITIAL_TASK all (record { task = sym first; some = omega arith })).started
 go-acts W t (event.MemberBegin r k) all made at = subst (Starts (member_made W r)) (sym at.task) (member-starts W r all made)
-go-acts W t (event.MemberEnd r k) all made at = finished-is (popped W t) k (ending W t k all at.end).started
+go-acts W t (event.MemberEnd r k) all made at = finished-is (without_current_task W t) k (ending W t k all at.end).started
 go-acts W t (event.TaskBegin prior task) all made at = started-is (taken_up W t task) task (unfinished-yet (pooled_at W task).condition (begins-unstarted W t task all at.task))
 go-acts W t other all made at = tt
 
@@ -51,7 +51,7 @@ pending-acts : (W : World) (t : ℕ) (callback : Option Callback) (one : Callbac
 pending-acts W t callback one is so = back-acts W t one.event (subst (PendingOrderly W t) is so)
 
 module _ (run : Run) (history : List Entry) (there : 1 ≤ run.threads) where
-  pub acts-walk : (t count : ℕ) (e : Event) → arrival (walk run count 0 (after run history) t).state.world t ≡ Meets e → GoActs (walk run count 0 (after run history) t).state.world t e
+  pub acts-walk : (t count : ℕ) (e : Event) → arrival (walk run count 0 (after run history) t).state.world t ≡ RuntimeEvent e → GoActs (walk run count 0 (after run history) t).state.world t e
   acts-walk t count e meets =
       let W = (walk run count 0 (after run history) t).state.world in
       go-acts W t e (orderly-walk run history there t count) (made-walk run (after run history) t count 0 (made-after run history there).world) (subst (Arrives W t) meets (arrives W t))

@@ -8,7 +8,7 @@ use Rattle.c_syntax.specs.language.Tree.{Tree}
 use Rattle.c_model.specs.declared.question.Ask.{Ask}
 use Rattle.c_model.specs.declared.question.Ask.TheVariants as ask
 use Rattle.c_model.specs.Asked.{count_asked, sections_asked}
-use Rattle.c_model.specs.Going.{after_answer}
+use Rattle.c_model.specs.AfterEvents.{after_answer}
 use Rattle.c_model.specs.Step.{silent}
 use Rattle.c_model.specs.Task.{Moment, Outcome}
 use Rattle.c_model.specs.Task.Outcome.{Asks, Ends, Limits, Occurs, StepsTo, Traps}
@@ -22,8 +22,8 @@ use Rattle.omp_model.specs.declared.parts.RegionHead.{RegionHead}
 use Rattle.omp_model.specs.State.{Region, Run, State, Task, Thread, World, no_region, no_task, region_at, task_at, thread_at, unmade, with_region, with_task, with_thread}
 use Rattle.omp_model.specs.Members.{current, current_index, current_region, current_team, is_member, moment_of, view_of}
 use Rattle.omp_model.proofs.Alike.{AlikeHead, AlikeTeam, AlikeThread, AlikeWorld, HasSomeShare, QuietWorld}
-use Rattle.omp_model.specs.Changes.{gone_past, gone_to, sharing}
-use Rattle.omp_model.specs.Made.{IsMadeWorld, IsTask}
+use Rattle.omp_model.specs.Changes.{with_masked_skipped, gone_to, with_taken_share}
+use Rattle.omp_model.specs.MadeWorld.{IsMadeWorld, IsTask}
 use Rattle.omp_model.specs.Silent.{Goes, Silence, Stops, answer_to, answered, chunk_dealt, fits_loop, fitting_chunk, fitting_section, items_asking, section_dealt, share_of_chunk, share_of_section, share_taken, silence_of, silent_step, team_after, team_asked}
 use Rattle.omp_model.specs.Turn.{turn, walk}
 use Rattle.omp_model.specs.Words.{stored}
@@ -152,7 +152,7 @@ alike-gone W k now =
       locks = coded.locks;
     }
 
-pub alike-past : (W : World) (t : ℕ) → AlikeWorld W (gone_past W t)
+pub alike-past : (W : World) (t : ℕ) → AlikeWorld W (with_masked_skipped W t)
 alike-past W t = alike-task W (current W t) _ refl refl
 
 -- What a tool stores.
@@ -196,7 +196,7 @@ alike-answered : (W : World) (t : ℕ) (what : Ask) (tree : Tree) → AlikeWorld
 alike-answered W t what tree =
     let given = answer_to W t what in
     let told = gone_to W (current W t) (after_answer (view_of W t) given (moment_of W t)) in
-    let next = sharing told t (share_taken tree given) in
+    let next = with_taken_share told t (share_taken tree given) in
     let after = answered W t what tree in
     alike-then W told after (alike-gone W (current W t) _)
     (alike-then told next after (alike-thread told t _ (record { stage = refl; stack = refl; invited = refl; undeferred = refl }))
@@ -248,7 +248,7 @@ quiet-gone t W k now =
       own = inl refl;
     }
 
-pub quiet-past : (t : ℕ) (W : World) → QuietWorld t W (gone_past W t)
+pub quiet-past : (t : ℕ) (W : World) → QuietWorld t W (with_masked_skipped W t)
 quiet-past t W =
     record {
       alike = alike-past W t;
@@ -294,12 +294,12 @@ quiet-on t W between (Stops halt) first next = tt
 
 pub quiet-walk : (run : Run) (t left made : ℕ) (S : State) → QuietWorld t S.world (walk run left made S t).state.world
 quiet-walk run t left made S =
-    of-walk run t (QuietWorld t S.world) (λ W so. quiet-then t S.world W (gone_past W t) so (quiet-past t W))
+    of-walk run t (QuietWorld t S.world) (λ W so. quiet-then t S.world W (with_masked_skipped W t) so (quiet-past t W))
     (λ W steps so. quiet-on t S.world W (silent_step run W t) so (quiet-step run t W)) left made S (quiet-same t S.world)
 
 pub quiet-turn : (run : Run) (t : ℕ) (S : State) → Turned run (QuietWorld t S.world) t (turn run S t).state.world (turn run S t).outcome
 quiet-turn run t S =
-    of-turn run t (QuietWorld t S.world) (λ W so. quiet-then t S.world W (gone_past W t) so (quiet-past t W))
+    of-turn run t (QuietWorld t S.world) (λ W so. quiet-then t S.world W (with_masked_skipped W t) so (quiet-past t W))
     (λ W steps so. quiet-on t S.world W (silent_step run W t) so (quiet-step run t W)) S (quiet-same t S.world)
 
 -- What is so of a world is so of one that is alike.

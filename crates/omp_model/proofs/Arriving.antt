@@ -17,7 +17,7 @@ use Rattle.omp_model.specs.declared.limits.TheConstants.{IMPLICIT_REGION, INITIA
 use Rattle.omp_model.specs.declared.parts.ThreadStage.{ThreadStage}
 use Rattle.omp_model.specs.declared.parts.ThreadStage.TheVariants as thread_stage
 use Rattle.omp_model.specs.declared.event.Arrival.{Arrival}
-use Rattle.omp_model.specs.declared.event.Arrival.TheVariants.{Comes, Meets, Steps, Waits}
+use Rattle.omp_model.specs.declared.event.Arrival.TheVariants.{CodeEvent, RuntimeEvent, Steps, Waits}
 use Rattle.omp_model.specs.declared.event.Event.{Event}
 use Rattle.omp_model.specs.declared.event.Event.TheVariants as event
 use Rattle.omp_model.specs.declared.event.Share.{Share}
@@ -27,7 +27,7 @@ use Rattle.omp_model.specs.Gates.{all_left, arrival, arrival_around, arrival_at,
 use Rattle.omp_model.proofs.Arrivals.{ComesToDispatch, ComesToThreadEnd, IsFree, IsInTask, IsQuiet}
 use Rattle.omp_model.specs.Turn.{goes_on}
 use Rattle.omp_model.specs.Words.{is_made_thread}
-use Rattle.omp_model.specs.Made.{IsThread}
+use Rattle.omp_model.specs.MadeWorld.{IsThread}
 
 -- the initial task begins on thread 0
 pub record AtInitial (W : World) (t : ℕ) : Type 0 where
@@ -89,7 +89,7 @@ pub record AtSwitch (W : World) (t prior k : ℕ) : Type 0 where
 -- an event of the code, from which nothing keeps the thread
 pub record IsAtCode (W : World) (t : ℕ) : Type 0 where
   pub within : IsInTask W t
-  pub gate : arrival_in W t (current W t) (upcoming_of (view_of W t) (code_of W t)) ≡ Comes
+  pub gate : arrival_in W t (current W t) (upcoming_of (view_of W t) (code_of W t)) ≡ CodeEvent
 
 -- what is so of an event beside all code, to which a thread has come
 abbrev pub Reached : World → ℕ → Event → Type 0
@@ -107,8 +107,8 @@ Reached W t other = ⊥
 abbrev pub Arrives : World → ℕ → Arrival → Type 0
 Arrives W t Waits = Unit {0}
 Arrives W t Steps = IsInTask W t
-Arrives W t Comes = IsAtCode W t
-Arrives W t (Meets event) = Reached W t event
+Arrives W t CodeEvent = IsAtCode W t
+Arrives W t (RuntimeEvent event) = Reached W t event
 
 -- a thread that goes on was made
 stage-goes : (W : World) (t : ℕ) (now : ThreadStage) → goes_on (arrival_at W t now) ≡ true → is_made_thread now ≡ true
@@ -145,8 +145,8 @@ module _ (W : World) (t : ℕ) where
         Arrives W t (arrival_at_end W t (current W t) which)
     at-end next kind.Initial is =
         let over : IsOver W t = record { within = within; next = next } in
-        either (has_no_tasks W (current_region W t)) (if workers_over W then Meets event.InitialTaskEnd else Waits) (starts_if W t (next_task W t))
-        (λ tasks. either (workers_over W) (Meets event.InitialTaskEnd) Waits
+        either (has_no_tasks W (current_region W t)) (if workers_over W then RuntimeEvent event.InitialTaskEnd else Waits) (starts_if W t (next_task W t))
+        (λ tasks. either (workers_over W) (RuntimeEvent event.InitialTaskEnd) Waits
         (λ workers. record { over = over; kind = is; tasks = tasks; workers = workers }) (λ others. tt))
         (λ others. starting (inl over) (next_task W t) refl)
     at-end next kind.Implicit is =
@@ -156,15 +156,15 @@ module _ (W : World) (t : ℕ) where
     at-end next kind.Undeferred is =
         record { over = record { within = within; next = next }; end = record { task = refl; some = within.some }; explicit = ap is_explicit is }
 
-    gated : (next : Upcoming) → upcoming_of (view_of W t) (code_of W t) ≡ next → arrival_in W t (current W t) next ≡ Comes → IsAtCode W t
+    gated : (next : Upcoming) → upcoming_of (view_of W t) (code_of W t) ≡ next → arrival_in W t (current W t) next ≡ CodeEvent → IsAtCode W t
     gated next is comes = record { within = within; gate = ap (arrival_in W t (current W t)) is ∙ comes }
 
     at-sync : (which : SyncKind) (at : SyncStage) → upcoming_of (view_of W t) (code_of W t) ≡ upcoming.Sync which at → Arrives W t (arrival_at_sync W t which at)
     at-sync which stage.RegionBegin is = gated (upcoming.Sync which stage.RegionBegin) is refl
     at-sync which stage.WaitBegin is = gated (upcoming.Sync which stage.WaitBegin) is refl
     at-sync which stage.WaitEnd is =
-        either (may_end W t which) Comes (starts_if W t (next_task W t))
-        (λ may. gated (upcoming.Sync which stage.WaitEnd) is (ap (λ (b : Bool). if b then Comes else starts_if W t (next_task W t)) may))
+        either (may_end W t which) CodeEvent (starts_if W t (next_task W t))
+        (λ may. gated (upcoming.Sync which stage.WaitEnd) is (ap (λ (b : Bool). if b then CodeEvent else starts_if W t (next_task W t)) may))
         (λ others. starting (inr (record { within = within; which = which; next = is })) (next_task W t) refl)
     at-sync which stage.RegionEnd is = gated (upcoming.Sync which stage.RegionEnd) is refl
 
@@ -173,11 +173,11 @@ module _ (W : World) (t : ℕ) where
     in-task upcoming.Event is = gated upcoming.Event is refl
     in-task upcoming.End is = at-end is (pooled_at W (current W t)).kind refl
     in-task upcoming.RegionEnd is =
-        either (all_left W (task_at W (current W t)).forked) Comes Waits (λ left. gated upcoming.RegionEnd is (ap comes_if left)) (λ others. tt)
+        either (all_left W (task_at W (current W t)).forked) CodeEvent Waits (λ left. gated upcoming.RegionEnd is (ap comes_if left)) (λ others. tt)
     in-task (upcoming.Sync which at) is = at-sync which at is
-    in-task (upcoming.Acquire id) is = either (not (is_owned W id)) Comes Waits (λ free. gated (upcoming.Acquire id) is (ap comes_if free)) (λ others. tt)
+    in-task (upcoming.Acquire id) is = either (not (is_owned W id)) CodeEvent Waits (λ free. gated (upcoming.Acquire id) is (ap comes_if free)) (λ others. tt)
     in-task (upcoming.Test id) is =
-        either (is_owned W id) Steps Comes (λ others. within) (λ free. gated (upcoming.Test id) is (ap (λ (b : Bool). if b then Steps else Comes) free))
+        either (is_owned W id) Steps CodeEvent (λ others. within) (λ free. gated (upcoming.Test id) is (ap (λ (b : Bool). if b then Steps else CodeEvent) free))
 
   -- a thread without a task
   around : IsQuiet W t → current W t ≡ 0 → t ≡ 0 → (now : Condition) → (pooled_at W INITIAL_TASK).condition ≡ now → Arrives W t (arrival_around now)
@@ -190,7 +190,7 @@ module _ (W : World) (t : ℕ) where
       Arrives W t (if b then arrival_around (pooled_at W INITIAL_TASK).condition else arrival_of_worker W)
   without-task quiet none true is = around quiet none (eqb-true t 0 is) (pooled_at W INITIAL_TASK).condition refl
   without-task quiet none false is =
-      either (main_returned W && has_no_tasks W IMPLICIT_REGION) (Meets event.ThreadEnd) Waits
+      either (main_returned W && has_no_tasks W IMPLICIT_REGION) (RuntimeEvent event.ThreadEnd) Waits
       (λ over. let parts = and_parts (main_returned W) (has_no_tasks W IMPLICIT_REGION) over in
       record {
         quiet = quiet;
@@ -214,14 +214,14 @@ module _ (W : World) (t : ℕ) where
       Arrives W t (arrival_with_undeferred W t (thread_at W t).undeferred)
   with-undeferred begun uninvited =
       let task = (thread_at W t).undeferred in
-      by-zero (λ b. Arrives W t (if b then arrival_with_share W t (thread_at W t).taken else Meets (event.TaskBegin (current W t) task))) task
+      by-zero (λ b. Arrives W t (if b then arrival_with_share W t (thread_at W t).taken else RuntimeEvent (event.TaskBegin (current W t) task))) task
       (λ none. with-share (record { stage = begun; invited = uninvited; undeferred = none }) (thread_at W t).taken refl)
       (λ some. record { stage = begun; before = refl; task = Undeferred uninvited refl some })
 
   invited-to : (thread_at W t).stage ≡ thread_stage.Begun → Arrives W t (arrival_invited W t (thread_at W t).invited)
   invited-to begun =
       let r = (thread_at W t).invited in
-      by-zero (λ b. Arrives W t (if b then arrival_with_undeferred W t (thread_at W t).undeferred else Meets (event.MemberBegin r (length W.tasks)))) r
+      by-zero (λ b. Arrives W t (if b then arrival_with_undeferred W t (thread_at W t).undeferred else RuntimeEvent (event.MemberBegin r (length W.tasks)))) r
       (with-undeferred begun) (λ some. record { stage = begun; region = refl; some = some; task = refl })
 
   at-stage : (now : ThreadStage) → (thread_at W t).stage ≡ now → Arrives W t (arrival_at W t now)

@@ -11,9 +11,9 @@ use Rattle.omp_model.specs.declared.parts.ThreadStage.TheVariants as thread_stag
 use Rattle.omp_model.specs.State.{Region, Task, Thread, World, no_region, no_task, region_at, task_at, thread_at, unmade, with_thread}
 use Rattle.omp_model.specs.Members.{current, current_index, current_region, is_outermost, member_index}
 use Rattle.omp_model.specs.Gates.{is_barrier}
-use Rattle.omp_model.specs.Changes.{all_summoned, begun, finished, forked, member_left, opened, summoned}
+use Rattle.omp_model.specs.Changes.{with_invitations, with_wait_begun, with_finished_task, with_forked_region, member_left, with_members_invited, with_invitation}
 use Rattle.omp_model.specs.Conditions.{AreOrderly, EventOrderly, HasEnded, WasCreated}
-use Rattle.omp_model.specs.Made.{HasOccurred, IsForkedRegion, IsMadeWorld, IsTask, IsThread}
+use Rattle.omp_model.specs.MadeWorld.{HasOccurred, IsForkedRegion, IsMadeWorld, IsTask, IsThread}
 use Rattle.omp_model.specs.Returning.{after_created, after_wait_begun, at_back}
 use Rattle.omp_model.proofs.Touching.{Returns}
 use Rattle.omp_model.proofs.MadeEvents.{current-below}
@@ -42,7 +42,7 @@ staged-back W t there =
 
 -- the members of an outermost region are summoned, or the encountering thread alone
 all-back : (W : World) (t r requested codeptr : ℕ) → IsMadeWorld W → IsForkedRegion W r → is_outermost W r ≡ true →
-    Returns W (record W { threads = all_summoned r (region_at W r).head.size W.threads }) t (ParallelBegin r requested codeptr)
+    Returns W (record W { threads = with_invitations r (region_at W r).head.size W.threads }) t (ParallelBegin r requested codeptr)
 all-back W t r requested codeptr made one is =
     record {
       thread = λ u. rw is (read-summoned r (region_at W r).head.size W.threads u (made.regions r one.made).fits);
@@ -59,10 +59,10 @@ all-back W t r requested codeptr made one is =
     }
 
 one-back : (W : World) (t r requested codeptr : ℕ) → IsThread W t → is_outermost W r ≡ false →
-    Returns W (with_thread W t (summoned r (thread_at W t))) t (ParallelBegin r requested codeptr)
+    Returns W (with_thread W t (with_invitation r (thread_at W t))) t (ParallelBegin r requested codeptr)
 one-back W t r requested codeptr there is =
     record {
-      thread = λ u. rw is (read-changed (summoned r) unmade W.threads t u (thread-below W t there));
+      thread = λ u. rw is (read-changed (with_invitation r) unmade W.threads t u (thread-below W t there));
       threads = length-set W.threads t _;
       tasks = refl;
       owner = λ k. refl;
@@ -76,10 +76,10 @@ one-back W t r requested codeptr there is =
     }
 
 opened-back : (W : World) (t r requested codeptr : ℕ) → IsMadeWorld W → IsThread W t → IsForkedRegion W r →
-    Returns W (opened W t r) t (ParallelBegin r requested codeptr)
+    Returns W (with_members_invited W t r) t (ParallelBegin r requested codeptr)
 opened-back W t r requested codeptr made there one =
-    let many : World = record W { threads = all_summoned r (region_at W r).head.size W.threads } in
-    let alone : World = with_thread W t (summoned r (thread_at W t)) in
+    let many : World = record W { threads = with_invitations r (region_at W r).head.size W.threads } in
+    let alone : World = with_thread W t (with_invitation r (thread_at W t)) in
     by-kind (is_outermost W r) many alone refl (all-back W t r requested codeptr made one) (one-back W t r requested codeptr there)
   where
     by-kind : (b : Bool) (many alone : World) → is_outermost W r ≡ b → (is_outermost W r ≡ true → Returns W many t (ParallelBegin r requested codeptr)) →
@@ -89,7 +89,7 @@ opened-back W t r requested codeptr made there one =
     by-kind false many alone is first second = second is
 
 -- the region that the current task has forked is over
-forked-back : (W : World) (t r codeptr : ℕ) → IsMadeWorld W → Returns W (forked W (current W t) 0) t (ParallelEnd r codeptr)
+forked-back : (W : World) (t r codeptr : ℕ) → IsMadeWorld W → Returns W (with_forked_region W (current W t) 0) t (ParallelEnd r codeptr)
 forked-back W t r codeptr made =
     let k = current W t in
     let over : Task = record (task_at W k) { forked = 0 } in
@@ -161,7 +161,7 @@ created-back W t task codeptr false made there one created =
     })
 
 -- a task has finished
-finished-back : (W : World) (t task : ℕ) → IsMadeWorld W → IsTask W task → HasEnded W t task → Returns W (finished W task) t (TaskEnd task)
+finished-back : (W : World) (t task : ℕ) → IsMadeWorld W → IsTask W task → HasEnded W t task → Returns W (with_finished_task W task) t (TaskEnd task)
 finished-back W t task made one ended =
     subst (λ after. Returns W after t (TaskEnd task)) (sym (finished-is W task ended.task.started))
     (record {
@@ -196,7 +196,7 @@ same-back W t codeptr which is =
     }
 
 begun-back : (W : World) (t codeptr : ℕ) (which : SyncKind) → IsMadeWorld W → is_barrier which ≡ true →
-    Returns W (begun W (current_region W t) (current_index W t)) t (Sync which stage.WaitBegin codeptr)
+    Returns W (with_wait_begun W (current_region W t) (current_index W t)) t (Sync which stage.WaitBegin codeptr)
 begun-back W t codeptr which made is =
     let r = current_region W t in
     let change : Region → Region = λ (region : Region). record region { team = with_begun region.team (current_index W t) } in
@@ -217,7 +217,7 @@ begun-back W t codeptr which made is =
 
 waiting-back : (W : World) (t codeptr : ℕ) (which : SyncKind) → IsMadeWorld W → Returns W (after_wait_begun W t which) t (Sync which stage.WaitBegin codeptr)
 waiting-back W t codeptr which made =
-    by-kind (is_barrier which) (begun W (current_region W t) (current_index W t)) refl (begun-back W t codeptr which made) (same-back W t codeptr which)
+    by-kind (is_barrier which) (with_wait_begun W (current_region W t) (current_index W t)) refl (begun-back W t codeptr which made) (same-back W t codeptr which)
   where
     by-kind : (b : Bool) (waiting : World) → is_barrier which ≡ b → (is_barrier which ≡ true → Returns W waiting t (Sync which stage.WaitBegin codeptr)) →
         (is_barrier which ≡ false → Returns W W t (Sync which stage.WaitBegin codeptr)) →

@@ -11,10 +11,10 @@ use Rattle.c_model.specs.declared.point.SyncStage.TheVariants as stage
 use Rattle.c_model.specs.declared.upcoming.Upcoming.{Upcoming}
 use Rattle.c_model.specs.declared.upcoming.Upcoming.TheVariants as upcoming
 use Rattle.c_model.specs.declared.view.View.{View}
-use Rattle.c_model.specs.Going.{answered_at}
+use Rattle.c_model.specs.AfterEvents.{answered_at}
 use Rattle.c_model.proofs.Fitting.{Fits}
 use Rattle.c_model.specs.Step.{is_event, items_from_next, silent, step_at, step_of}
-use Rattle.c_model.specs.Task.{Here, Item, Moment, Outcome}
+use Rattle.c_model.specs.Task.{StepStart, Item, Moment, Outcome}
 use Rattle.c_model.specs.Task.Item.{Forked, Sync, Acquire, TestLock, Tested}
 use Rattle.c_model.specs.Task.Outcome.{Asks, Ends, Limits, Occurs, StepsTo, Traps}
 use Rattle.c_model.specs.Upcoming.{upcoming_among, upcoming_by_form, upcoming_of}
@@ -27,7 +27,7 @@ use Rattle.task_pool.specs.declared.task.TaskKind.TheVariants as kind
 use Rattle.omp_model.specs.declared.parts.ThreadStage.{ThreadStage}
 use Rattle.omp_model.specs.declared.parts.ThreadStage.TheVariants as thread_stage
 use Rattle.omp_model.specs.declared.event.Arrival.{Arrival}
-use Rattle.omp_model.specs.declared.event.Arrival.TheVariants.{Comes, Meets, Steps, Waits}
+use Rattle.omp_model.specs.declared.event.Arrival.TheVariants.{CodeEvent, RuntimeEvent, Steps, Waits}
 use Rattle.omp_model.specs.declared.event.Event.{Event}
 use Rattle.omp_model.specs.declared.event.Event.TheVariants.{InitialTaskEnd, MemberBegin, TaskBegin, ThreadEnd}
 use Rattle.omp_model.specs.declared.event.Halt.{Halt}
@@ -36,8 +36,8 @@ use Rattle.omp_model.specs.State.{Run, World, pooled_at, task_at, thread_at}
 use Rattle.omp_model.specs.declared.limits.TheConstants.{IMPLICIT_REGION, INITIAL_TASK}
 use Rattle.omp_model.specs.Members.{code_of, current, current_region, moment_of, view_of}
 use Rattle.omp_model.specs.Gates.{all_left, arrival, arrival_around, arrival_at, arrival_at_end, arrival_at_sync, arrival_in, arrival_of_task, arrival_of_worker, arrival_with_share, arrival_with_undeferred, arrival_without_task, has_no_tasks, is_owned, main_returned, may_end, next_task, starts_if, workers_over}
-use Rattle.omp_model.specs.Changes.{gone_past}
-use Rattle.omp_model.specs.Going.{Going, Nothing, Happens, Halts, going_by, going_in_code, told, unless}
+use Rattle.omp_model.specs.Changes.{with_masked_skipped}
+use Rattle.omp_model.specs.EventEffects.{Going, Nothing, Happens, Halts, going_by, go_of_code, told, unless}
 use Rattle.omp_model.proofs.GonePast.{told-past}
 
 -- it occurs, or meets a trap or a limit
@@ -92,7 +92,7 @@ step-fits program view now (Forked construct ∷ rest) next = absurd next
 step-fits program view now (Sync tree which at ∷ rest) next = absurd next
 step-fits program view now (Acquire tree which id ∷ rest) next = absurd next
 step-fits program view now (other ∷ rest) next =
-    let here : Here = record { program = program; view = view; task = record now.task { todo = rest }; store = now.store } in
+    let here : StepStart = record { program = program; view = view; task = record now.task { todo = rest }; store = now.store } in
     subst (Fits (step_of other here)) (step-form other next) (fits-item other here)
 
 -- a task whose next item is this one, when it has been told that a lock isn't owned
@@ -119,9 +119,9 @@ module _ (program : TreeView) (view : View) (now : Moment) where
 -- What comes next in the code, where the thread comes to a step of it, or to an event of it.
 abbrev IsNext : Arrival → Upcoming → Type 0
 IsNext Steps next = IsStep next
-IsNext Comes next = IsOfCode next
+IsNext CodeEvent next = IsOfCode next
 IsNext Waits next = Unit {0}
-IsNext (Meets event) next = Unit {0}
+IsNext (RuntimeEvent event) next = Unit {0}
 
 either : (next : Upcoming) (one other : Arrival) (b : Bool) → IsNext one next → IsNext other next → IsNext (if b then one else other) next
 either next one other true first second = first
@@ -134,25 +134,25 @@ module _ (W : World) (t : ℕ) where
 
   at-end : (k : ℕ) (next : Upcoming) (which : TaskKind) → IsNext (arrival_at_end W t k which) next
   at-end k next kind.Initial =
-      either next (if workers_over W then Meets InitialTaskEnd else Waits) (starts_if W t (next_task W t)) (has_no_tasks W (current_region W t))
-      (either next (Meets InitialTaskEnd) Waits (workers_over W) tt tt) (starts next (next_task W t))
+      either next (if workers_over W then RuntimeEvent InitialTaskEnd else Waits) (starts_if W t (next_task W t)) (has_no_tasks W (current_region W t))
+      (either next (RuntimeEvent InitialTaskEnd) Waits (workers_over W) tt tt) (starts next (next_task W t))
   at-end k next kind.Implicit = tt
   at-end k next kind.Explicit = tt
   at-end k next kind.Undeferred = tt
 
   at-sync : (which : SyncKind) (at : SyncStage) → IsNext (arrival_at_sync W t which at) (upcoming.Sync which at)
   at-sync which stage.WaitEnd =
-      either (upcoming.Sync which stage.WaitEnd) Comes (starts_if W t (next_task W t)) (may_end W t which) tt (starts (upcoming.Sync which stage.WaitEnd) (next_task W t))
+      either (upcoming.Sync which stage.WaitEnd) CodeEvent (starts_if W t (next_task W t)) (may_end W t which) tt (starts (upcoming.Sync which stage.WaitEnd) (next_task W t))
   at-sync which other = tt
 
   in-task : (k : ℕ) (next : Upcoming) → IsNext (arrival_in W t k next) next
   in-task k upcoming.Step = tt
   in-task k upcoming.Event = tt
   in-task k upcoming.End = at-end k upcoming.End (pooled_at W k).kind
-  in-task k upcoming.RegionEnd = either upcoming.RegionEnd Comes Waits (all_left W (task_at W k).forked) tt tt
+  in-task k upcoming.RegionEnd = either upcoming.RegionEnd CodeEvent Waits (all_left W (task_at W k).forked) tt tt
   in-task k (upcoming.Sync which at) = at-sync which at
-  in-task k (upcoming.Acquire id) = either (upcoming.Acquire id) Comes Waits (not (is_owned W id)) tt tt
-  in-task k (upcoming.Test id) = either (upcoming.Test id) Steps Comes (is_owned W id) tt tt
+  in-task k (upcoming.Acquire id) = either (upcoming.Acquire id) CodeEvent Waits (not (is_owned W id)) tt tt
+  in-task k (upcoming.Test id) = either (upcoming.Test id) Steps CodeEvent (is_owned W id) tt tt
 
   around : (next : Upcoming) (now : Condition) → IsNext (arrival_around now) next
   around next condition.Made = tt
@@ -167,7 +167,7 @@ module _ (W : World) (t : ℕ) where
   of-task k =
       either next (arrival_without_task W t) (arrival_in W t k next) (k == 0)
       (either next (arrival_around (pooled_at W INITIAL_TASK).condition) (arrival_of_worker W) (t == 0) (around next (pooled_at W INITIAL_TASK).condition)
-      (either next (Meets ThreadEnd) Waits (main_returned W && has_no_tasks W IMPLICIT_REGION) tt tt))
+      (either next (RuntimeEvent ThreadEnd) Waits (main_returned W && has_no_tasks W IMPLICIT_REGION) tt tt))
       (in-task k next)
 
   with-share : (share : Option Share) → IsNext (arrival_with_share W t share) next
@@ -175,14 +175,14 @@ module _ (W : World) (t : ℕ) where
   with-share None = of-task (current W t)
 
   with-undeferred : (task : ℕ) → IsNext (arrival_with_undeferred W t task) next
-  with-undeferred task = either next (arrival_with_share W t (thread_at W t).taken) (Meets (TaskBegin (current W t) task)) (task == 0) (with-share (thread_at W t).taken) tt
+  with-undeferred task = either next (arrival_with_share W t (thread_at W t).taken) (RuntimeEvent (TaskBegin (current W t) task)) (task == 0) (with-share (thread_at W t).taken) tt
 
   at-stage : (now : ThreadStage) → IsNext (arrival_at W t now) next
   at-stage thread_stage.Unmade = tt
   at-stage thread_stage.Made = tt
   at-stage thread_stage.Begun =
       let r = (thread_at W t).invited in
-      either next (arrival_with_undeferred W t (thread_at W t).undeferred) (Meets (MemberBegin r (length W.tasks))) (r == 0) (with-undeferred (thread_at W t).undeferred) tt
+      either next (arrival_with_undeferred W t (thread_at W t).undeferred) (RuntimeEvent (MemberBegin r (length W.tasks))) (r == 0) (with-undeferred (thread_at W t).undeferred) tt
   at-stage thread_stage.Ended = tt
 
   comes-next : IsNext (arrival W t) next
@@ -195,15 +195,15 @@ module _ (W : World) (t : ℕ) where
   steps-silent program is = step-fits program (view_of W t) (moment_of W t) (items_from_next (view_of W t) (code_of W t).todo) (subst (λ came. IsNext came next) is comes-next)
 
   -- where it comes to an event of its code, the event occurs, or the code meets a trap or a limit
-  pub comes-told : (program : TreeView) → arrival W t ≡ Comes → Fits (silent program (view_of W t) (told W t)) true
+  pub comes-told : (program : TreeView) → arrival W t ≡ CodeEvent → Fits (silent program (view_of W t) (told W t)) true
   comes-told program is =
       told-fits program (view_of W t) (record (moment_of W t) { task = record (code_of W t) { todo = items_from_next (view_of W t) (code_of W t).todo } })
       (items_from_next (view_of W t) (code_of W t).todo) (next_once (view_of W t) (code_of W t).todo) (subst (λ came. IsNext came next) is comes-next)
 
   -- .. also when its task has left out what it goes past
-  pub comes-told-past : (program : TreeView) → arrival W t ≡ Comes → Fits (silent program (view_of W t) (told (gone_past W t) t)) true
+  pub comes-told-past : (program : TreeView) → arrival W t ≡ CodeEvent → Fits (silent program (view_of W t) (told (with_masked_skipped W t) t)) true
   comes-told-past program is = subst (λ now. Fits (silent program (view_of W t) now) true) (sym (told-past W t)) (comes-told program is)
 
-  pub comes_goes : (run : Run) → arrival W t ≡ Comes → IsGo (going_in_code run W t)
-  unfolding going_in_code
+  pub comes_goes : (run : Run) → arrival W t ≡ CodeEvent → IsGo (go_of_code run W t)
+  unfolding go_of_code
   comes_goes run is = fits-goes run W t (told W t) (silent run.program (view_of W t) (told W t)) (comes-told run.program is)

@@ -14,7 +14,7 @@ use Rattle.omp_model.specs.declared.limits.TheConstants.{INITIAL_TASK}
 use Rattle.omp_model.specs.declared.event.Event.{Event}
 use Rattle.omp_model.specs.declared.event.Event.TheVariants.{TaskCreate, TaskEnd}
 use Rattle.omp_model.specs.State.{Task, Thread, World, no_task, pooled_at, task_at, thread_at, unmade, with_task, with_thread}
-use Rattle.omp_model.specs.Changes.{all_summoned}
+use Rattle.omp_model.specs.Changes.{with_invitations}
 use Rattle.omp_model.specs.Conditions.{AreOrderly, Distinct, EventOrderly, IsReady, IsToStart, IsUnderWay, WasTakenUp}
 use Rattle.omp_model.proofs.Later.{at-set}
 use Rattle.omp_model.proofs.MadeWords.{at-summoned, pool-at, pool-set}
@@ -69,7 +69,7 @@ still-task W k task same =
       holders = λ j. at-set (λ (x : Task). x.thread ≡ (task_at W j).thread) no_task W.tasks k j task refl (λ is. same ∙ ap (λ i. (task_at W i).thread) (sym is));
     }
 
-pub still-summoned : (W : World) (r size : ℕ) → Still W (record W { threads = all_summoned r size W.threads })
+pub still-summoned : (W : World) (r size : ℕ) → Still W (record W { threads = with_invitations r size W.threads })
 still-summoned W r size =
     record {
       pool = refl;

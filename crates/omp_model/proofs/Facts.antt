@@ -44,9 +44,9 @@ use Rattle.task_pool.specs.Allowed.{descends_within, last_where}
 use Rattle.team_parts.specs.Chunks.{dealt_count}
 use Rattle.sync_objects.specs.Owners.{critical_locks, look_up, in_order, without, with_owner}
 use Rattle.omp_model.specs.Calls.{call_of}
-use Rattle.omp_model.specs.Changes.{all_summoned}
+use Rattle.omp_model.specs.Changes.{with_invitations}
 use Rattle.omp_model.specs.Gates.{arrival}
-use Rattle.omp_model.specs.Going.{fault_of_point, fault_of, effect_of_point, effect_of, going_in_code}
+use Rattle.omp_model.specs.EventEffects.{fault_of_point, fault_of, effect_of_point, effect_of, go_of_code}
 use Rattle.omp_model.specs.Returning.{at_back}
 use Rattle.omp_model.specs.Serial.{enabled_among, serial_from, serial}
 use Rattle.omp_model.specs.Silent.{silent_step}
@@ -94,7 +94,7 @@ nested-lines : take 4 (drop 2 (lines nested_run (serial nested_run))) ≡
     ∷ line 8 0 (call.ParallelBegin (word 2) (frame 2 32770) (word 3) 1 2147483649 196609)
     ∷ line 10 0 (call.ImplicitTask 1 (word 3) (word 3) 1 0 2)
     ∷ []
-unfolding children acts each target function init first_part second_part third_part outside_acts clause_outside statements after_all inside_acts mention unlisted_in loops_in find still_in_scope after stands_in stands_among child_count names is_among with_each masked_badly critical_badly spoiled is_loop_inside not_listed slot_in construct_at slots_copied number_among shared_by_rule sharing_at copies_around statement_of from_place told_by_all with_parameters last_named first_named last_of_slot with_declarators clauses_among statements_among expression_among schedule_among listed_among with_listed with_slots combining_all trees_in flat_declarations function_among variables_among items_from_next silent printed_text text_behind_percent text_behind_backslash value values all_values descends_within last_where dealt_count critical_locks look_up in_order without with_owner call_of all_summoned arrival fault_of_point fault_of effect_of_point effect_of going_in_code at_back enabled_among serial_from silent_step state_of levels_from down_from regions_after walk unlimited turn enabled
+unfolding children acts each target function init first_part second_part third_part outside_acts clause_outside statements after_all inside_acts mention unlisted_in loops_in find still_in_scope after stands_in stands_among child_count names is_among with_each masked_badly critical_badly spoiled is_loop_inside not_listed slot_in construct_at slots_copied number_among shared_by_rule sharing_at copies_around statement_of from_place told_by_all with_parameters last_named first_named last_of_slot with_declarators clauses_among statements_among expression_among schedule_among listed_among with_listed with_slots combining_all trees_in flat_declarations function_among variables_among items_from_next silent printed_text text_behind_percent text_behind_backslash value values all_values descends_within last_where dealt_count critical_locks look_up in_order without with_owner call_of with_invitations arrival fault_of_point fault_of effect_of_point effect_of go_of_code at_back enabled_among serial_from silent_step state_of levels_from down_from regions_after walk unlimited turn enabled
 nested-lines = refl
 
 -- what can be inquired at the innermost begin
@@ -113,7 +113,7 @@ nested-snapshot : inquired 5 nested_run ≡ Some (record {
   regions = record { word = word 3; team = 1 } ∷ record { word = word 2; team = 1 } ∷ record { word = word 1; team = 1 } ∷ [];
   fresh = None;
 })
-unfolding children acts each target function init first_part second_part third_part outside_acts clause_outside statements after_all inside_acts mention unlisted_in loops_in find still_in_scope after stands_in stands_among child_count names is_among with_each masked_badly critical_badly spoiled is_loop_inside not_listed slot_in construct_at slots_copied number_among shared_by_rule sharing_at copies_around statement_of from_place told_by_all with_parameters last_named first_named last_of_slot with_declarators clauses_among statements_among expression_among schedule_among listed_among with_listed with_slots combining_all trees_in flat_declarations function_among variables_among items_from_next silent printed_text text_behind_percent text_behind_backslash value values all_values descends_within last_where dealt_count critical_locks look_up in_order without with_owner call_of all_summoned arrival fault_of_point fault_of effect_of_point effect_of going_in_code at_back enabled_among serial_from silent_step state_of levels_from down_from regions_after walk unlimited turn enabled
+unfolding children acts each target function init first_part second_part third_part outside_acts clause_outside statements after_all inside_acts mention unlisted_in loops_in find still_in_scope after stands_in stands_among child_count names is_among with_each masked_badly critical_badly spoiled is_loop_inside not_listed slot_in construct_at slots_copied number_among shared_by_rule sharing_at copies_around statement_of from_place told_by_all with_parameters last_named first_named last_of_slot with_declarators clauses_among statements_among expression_among schedule_among listed_among with_listed with_slots combining_all trees_in flat_declarations function_among variables_among items_from_next silent printed_text text_behind_percent text_behind_backslash value values all_values descends_within last_where dealt_count critical_locks look_up in_order without with_owner call_of with_invitations arrival fault_of_point fault_of effect_of_point effect_of go_of_code at_back enabled_among serial_from silent_step state_of levels_from down_from regions_after walk unlimited turn enabled
 nested-snapshot = refl
 
 -- Task 5 is the newer one, but doesn't descend from task 2, which waits for its own child.
@@ -158,7 +158,7 @@ scheduling_run = run_of 2 1 scheduling_program
 
 scheduling-starts : take 2 (drop 12 (lines scheduling_run (serial scheduling_run))) ≡
     line 24 0 (call.TaskSchedule (word 2) 7 (word 4)) ∷ line 26 1 (call.TaskSchedule (word 3) 7 (word 5)) ∷ []
-unfolding children acts each target function init first_part second_part third_part outside_acts clause_outside statements after_all inside_acts mention unlisted_in loops_in find still_in_scope after stands_in stands_among child_count names is_among with_each masked_badly critical_badly spoiled is_loop_inside not_listed slot_in construct_at slots_copied number_among shared_by_rule sharing_at copies_around statement_of from_place told_by_all with_parameters last_named first_named last_of_slot with_declarators clauses_among statements_among expression_among schedule_among listed_among with_listed with_slots combining_all trees_in flat_declarations function_among variables_among items_from_next silent printed_text text_behind_percent text_behind_backslash value values all_values descends_within last_where dealt_count critical_locks look_up in_order without with_owner call_of all_summoned arrival fault_of_point fault_of effect_of_point effect_of going_in_code at_back enabled_among serial_from silent_step state_of levels_from down_from regions_after walk unlimited turn enabled
+unfolding children acts each target function init first_part second_part third_part outside_acts clause_outside statements after_all inside_acts mention unlisted_in loops_in find still_in_scope after stands_in stands_among child_count names is_among with_each masked_badly critical_badly spoiled is_loop_inside not_listed slot_in construct_at slots_copied number_among shared_by_rule sharing_at copies_around statement_of from_place told_by_all with_parameters last_named first_named last_of_slot with_declarators clauses_among statements_among expression_among schedule_among listed_among with_listed with_slots combining_all trees_in flat_declarations function_among variables_among items_from_next silent printed_text text_behind_percent text_behind_backslash value values all_values descends_within last_where dealt_count critical_locks look_up in_order without with_owner call_of with_invitations arrival fault_of_point fault_of effect_of_point effect_of go_of_code at_back enabled_among serial_from silent_step state_of levels_from down_from regions_after walk unlimited turn enabled
 scheduling-starts = refl
 
 -- Thread 0 waits in the region's barrier, so it holds its implicit task there only as one that is suspended in a barrier, and starts the task that the
@@ -196,7 +196,7 @@ abbrev suspended_run : Run
 suspended_run = run_of 2 1 suspended_program
 
 suspended-starts : line_behind 10 suspended_run ≡ Some (line 20 0 (call.TaskSchedule (word 2) 7 (word 4)))
-unfolding children acts each target function init first_part second_part third_part outside_acts clause_outside statements after_all inside_acts mention unlisted_in loops_in find still_in_scope after stands_in stands_among child_count names is_among with_each masked_badly critical_badly spoiled is_loop_inside not_listed slot_in construct_at slots_copied number_among shared_by_rule sharing_at copies_around statement_of from_place told_by_all with_parameters last_named first_named last_of_slot with_declarators clauses_among statements_among expression_among schedule_among listed_among with_listed with_slots combining_all trees_in flat_declarations function_among variables_among items_from_next silent printed_text text_behind_percent text_behind_backslash value values all_values descends_within last_where dealt_count critical_locks look_up in_order without with_owner call_of all_summoned arrival fault_of_point fault_of effect_of_point effect_of going_in_code at_back enabled_among serial_from silent_step state_of levels_from down_from regions_after walk unlimited turn enabled
+unfolding children acts each target function init first_part second_part third_part outside_acts clause_outside statements after_all inside_acts mention unlisted_in loops_in find still_in_scope after stands_in stands_among child_count names is_among with_each masked_badly critical_badly spoiled is_loop_inside not_listed slot_in construct_at slots_copied number_among shared_by_rule sharing_at copies_around statement_of from_place told_by_all with_parameters last_named first_named last_of_slot with_declarators clauses_among statements_among expression_among schedule_among listed_among with_listed with_slots combining_all trees_in flat_declarations function_among variables_among items_from_next silent printed_text text_behind_percent text_behind_backslash value values all_values descends_within last_where dealt_count critical_locks look_up in_order without with_owner call_of with_invitations arrival fault_of_point fault_of effect_of_point effect_of go_of_code at_back enabled_among serial_from silent_step state_of levels_from down_from regions_after walk unlimited turn enabled
 suspended-starts = refl
 
 -- A nested region has a team of one, though two threads are there and asked for.
@@ -229,7 +229,7 @@ lone-begins : take 2 (drop 4 (lines lone_run (serial lone_run))) ≡
     line 8 0 (call.ParallelBegin (word 2) (frame 2 32770) (word 3) 2 2147483649 196609)
     ∷ line 10 0 (call.ImplicitTask 1 (word 3) (word 3) 1 0 2)
     ∷ []
-unfolding children acts each target function init first_part second_part third_part outside_acts clause_outside statements after_all inside_acts mention unlisted_in loops_in find still_in_scope after stands_in stands_among child_count names is_among with_each masked_badly critical_badly spoiled is_loop_inside not_listed slot_in construct_at slots_copied number_among shared_by_rule sharing_at copies_around statement_of from_place told_by_all with_parameters last_named first_named last_of_slot with_declarators clauses_among statements_among expression_among schedule_among listed_among with_listed with_slots combining_all trees_in flat_declarations function_among variables_among items_from_next silent printed_text text_behind_percent text_behind_backslash value values all_values descends_within last_where dealt_count critical_locks look_up in_order without with_owner call_of all_summoned arrival fault_of_point fault_of effect_of_point effect_of going_in_code at_back enabled_among serial_from silent_step state_of levels_from down_from regions_after walk unlimited turn enabled
+unfolding children acts each target function init first_part second_part third_part outside_acts clause_outside statements after_all inside_acts mention unlisted_in loops_in find still_in_scope after stands_in stands_among child_count names is_among with_each masked_badly critical_badly spoiled is_loop_inside not_listed slot_in construct_at slots_copied number_among shared_by_rule sharing_at copies_around statement_of from_place told_by_all with_parameters last_named first_named last_of_slot with_declarators clauses_among statements_among expression_among schedule_among listed_among with_listed with_slots combining_all trees_in flat_declarations function_among variables_among items_from_next silent printed_text text_behind_percent text_behind_backslash value values all_values descends_within last_where dealt_count critical_locks look_up in_order without with_owner call_of with_invitations arrival fault_of_point fault_of effect_of_point effect_of go_of_code at_back enabled_among serial_from silent_step state_of levels_from down_from regions_after walk unlimited turn enabled
 lone-begins = refl
 
 -- A lock is given back by a task that doesn't own it.
@@ -263,11 +263,11 @@ abbrev foreign_run : Run
 foreign_run = run_of 1 2 foreign_program
 
 foreign-ends : cause_of foreign_run (serial foreign_run) ≡ Some (cause.Trapped 8)
-unfolding children acts each target function init first_part second_part third_part outside_acts clause_outside statements after_all inside_acts mention unlisted_in loops_in find still_in_scope after stands_in stands_among child_count names is_among with_each masked_badly critical_badly spoiled is_loop_inside not_listed slot_in construct_at slots_copied number_among shared_by_rule sharing_at copies_around statement_of from_place told_by_all with_parameters last_named first_named last_of_slot with_declarators clauses_among statements_among expression_among schedule_among listed_among with_listed with_slots combining_all trees_in flat_declarations function_among variables_among items_from_next silent printed_text text_behind_percent text_behind_backslash value values all_values descends_within last_where dealt_count critical_locks look_up in_order without with_owner call_of all_summoned arrival fault_of_point fault_of effect_of_point effect_of going_in_code at_back enabled_among serial_from silent_step state_of levels_from down_from regions_after walk unlimited turn enabled
+unfolding children acts each target function init first_part second_part third_part outside_acts clause_outside statements after_all inside_acts mention unlisted_in loops_in find still_in_scope after stands_in stands_among child_count names is_among with_each masked_badly critical_badly spoiled is_loop_inside not_listed slot_in construct_at slots_copied number_among shared_by_rule sharing_at copies_around statement_of from_place told_by_all with_parameters last_named first_named last_of_slot with_declarators clauses_among statements_among expression_among schedule_among listed_among with_listed with_slots combining_all trees_in flat_declarations function_among variables_among items_from_next silent printed_text text_behind_percent text_behind_backslash value values all_values descends_within last_where dealt_count critical_locks look_up in_order without with_owner call_of with_invitations arrival fault_of_point fault_of effect_of_point effect_of go_of_code at_back enabled_among serial_from silent_step state_of levels_from down_from regions_after walk unlimited turn enabled
 foreign-ends = refl
 
 foreign-last : last_line foreign_run ≡ Some (line 12 0 (call.ImplicitTask 1 (word 2) (word 2) 1 0 2))
-unfolding children acts each target function init first_part second_part third_part outside_acts clause_outside statements after_all inside_acts mention unlisted_in loops_in find still_in_scope after stands_in stands_among child_count names is_among with_each masked_badly critical_badly spoiled is_loop_inside not_listed slot_in construct_at slots_copied number_among shared_by_rule sharing_at copies_around statement_of from_place told_by_all with_parameters last_named first_named last_of_slot with_declarators clauses_among statements_among expression_among schedule_among listed_among with_listed with_slots combining_all trees_in flat_declarations function_among variables_among items_from_next silent printed_text text_behind_percent text_behind_backslash value values all_values descends_within last_where dealt_count critical_locks look_up in_order without with_owner call_of all_summoned arrival fault_of_point fault_of effect_of_point effect_of going_in_code at_back enabled_among serial_from silent_step state_of levels_from down_from regions_after walk unlimited turn enabled
+unfolding children acts each target function init first_part second_part third_part outside_acts clause_outside statements after_all inside_acts mention unlisted_in loops_in find still_in_scope after stands_in stands_among child_count names is_among with_each masked_badly critical_badly spoiled is_loop_inside not_listed slot_in construct_at slots_copied number_among shared_by_rule sharing_at copies_around statement_of from_place told_by_all with_parameters last_named first_named last_of_slot with_declarators clauses_among statements_among expression_among schedule_among listed_among with_listed with_slots combining_all trees_in flat_declarations function_among variables_among items_from_next silent printed_text text_behind_percent text_behind_backslash value values all_values descends_within last_where dealt_count critical_locks look_up in_order without with_owner call_of with_invitations arrival fault_of_point fault_of effect_of_point effect_of go_of_code at_back enabled_among serial_from silent_step state_of levels_from down_from regions_after walk unlimited turn enabled
 foreign-last = refl
 
 -- One member meets a barrier where the other one meets a single.
@@ -304,15 +304,15 @@ abbrev mismatched_run : Run
 mismatched_run = run_of 2 1 mismatched_program
 
 mismatched-ends : cause_of mismatched_run (serial mismatched_run) ≡ Some (cause.Trapped 4)
-unfolding children acts each target function init first_part second_part third_part outside_acts clause_outside statements after_all inside_acts mention unlisted_in loops_in find still_in_scope after stands_in stands_among child_count names is_among with_each masked_badly critical_badly spoiled is_loop_inside not_listed slot_in construct_at slots_copied number_among shared_by_rule sharing_at copies_around statement_of from_place told_by_all with_parameters last_named first_named last_of_slot with_declarators clauses_among statements_among expression_among schedule_among listed_among with_listed with_slots combining_all trees_in flat_declarations function_among variables_among items_from_next silent printed_text text_behind_percent text_behind_backslash value values all_values descends_within last_where dealt_count critical_locks look_up in_order without with_owner call_of all_summoned arrival fault_of_point fault_of effect_of_point effect_of going_in_code at_back enabled_among serial_from silent_step state_of levels_from down_from regions_after walk unlimited turn enabled
+unfolding children acts each target function init first_part second_part third_part outside_acts clause_outside statements after_all inside_acts mention unlisted_in loops_in find still_in_scope after stands_in stands_among child_count names is_among with_each masked_badly critical_badly spoiled is_loop_inside not_listed slot_in construct_at slots_copied number_among shared_by_rule sharing_at copies_around statement_of from_place told_by_all with_parameters last_named first_named last_of_slot with_declarators clauses_among statements_among expression_among schedule_among listed_among with_listed with_slots combining_all trees_in flat_declarations function_among variables_among items_from_next silent printed_text text_behind_percent text_behind_backslash value values all_values descends_within last_where dealt_count critical_locks look_up in_order without with_owner call_of with_invitations arrival fault_of_point fault_of effect_of_point effect_of go_of_code at_back enabled_among serial_from silent_step state_of levels_from down_from regions_after walk unlimited turn enabled
 mismatched-ends = refl
 
 mismatched-last : last_line mismatched_run ≡ Some (line 12 0 (call.SyncRegion 3 1 (word 2) (word 2) 262145))
-unfolding children acts each target function init first_part second_part third_part outside_acts clause_outside statements after_all inside_acts mention unlisted_in loops_in find still_in_scope after stands_in stands_among child_count names is_among with_each masked_badly critical_badly spoiled is_loop_inside not_listed slot_in construct_at slots_copied number_among shared_by_rule sharing_at copies_around statement_of from_place told_by_all with_parameters last_named first_named last_of_slot with_declarators clauses_among statements_among expression_among schedule_among listed_among with_listed with_slots combining_all trees_in flat_declarations function_among variables_among items_from_next silent printed_text text_behind_percent text_behind_backslash value values all_values descends_within last_where dealt_count critical_locks look_up in_order without with_owner call_of all_summoned arrival fault_of_point fault_of effect_of_point effect_of going_in_code at_back enabled_among serial_from silent_step state_of levels_from down_from regions_after walk unlimited turn enabled
+unfolding children acts each target function init first_part second_part third_part outside_acts clause_outside statements after_all inside_acts mention unlisted_in loops_in find still_in_scope after stands_in stands_among child_count names is_among with_each masked_badly critical_badly spoiled is_loop_inside not_listed slot_in construct_at slots_copied number_among shared_by_rule sharing_at copies_around statement_of from_place told_by_all with_parameters last_named first_named last_of_slot with_declarators clauses_among statements_among expression_among schedule_among listed_among with_listed with_slots combining_all trees_in flat_declarations function_among variables_among items_from_next silent printed_text text_behind_percent text_behind_backslash value values all_values descends_within last_where dealt_count critical_locks look_up in_order without with_owner call_of with_invitations arrival fault_of_point fault_of effect_of_point effect_of go_of_code at_back enabled_among serial_from silent_step state_of levels_from down_from regions_after walk unlimited turn enabled
 mismatched-last = refl
 
 mismatched-long : length (serial mismatched_run) ≡ 15
-unfolding children acts each target function init first_part second_part third_part outside_acts clause_outside statements after_all inside_acts mention unlisted_in loops_in find still_in_scope after stands_in stands_among child_count names is_among with_each masked_badly critical_badly spoiled is_loop_inside not_listed slot_in construct_at slots_copied number_among shared_by_rule sharing_at copies_around statement_of from_place told_by_all with_parameters last_named first_named last_of_slot with_declarators clauses_among statements_among expression_among schedule_among listed_among with_listed with_slots combining_all trees_in flat_declarations function_among variables_among items_from_next silent printed_text text_behind_percent text_behind_backslash value values all_values descends_within last_where dealt_count critical_locks look_up in_order without with_owner call_of all_summoned arrival fault_of_point fault_of effect_of_point effect_of going_in_code at_back enabled_among serial_from silent_step state_of levels_from down_from regions_after walk unlimited turn enabled
+unfolding children acts each target function init first_part second_part third_part outside_acts clause_outside statements after_all inside_acts mention unlisted_in loops_in find still_in_scope after stands_in stands_among child_count names is_among with_each masked_badly critical_badly spoiled is_loop_inside not_listed slot_in construct_at slots_copied number_among shared_by_rule sharing_at copies_around statement_of from_place told_by_all with_parameters last_named first_named last_of_slot with_declarators clauses_among statements_among expression_among schedule_among listed_among with_listed with_slots combining_all trees_in flat_declarations function_among variables_among items_from_next silent printed_text text_behind_percent text_behind_backslash value values all_values descends_within last_where dealt_count critical_locks look_up in_order without with_owner call_of with_invitations arrival fault_of_point fault_of effect_of_point effect_of go_of_code at_back enabled_among serial_from silent_step state_of levels_from down_from regions_after walk unlimited turn enabled
 mismatched-long = refl
 
 -- The second call waits for the lock for ever.
@@ -342,11 +342,11 @@ abbrev waiting_run : Run
 waiting_run = run_of 1 2 waiting_program
 
 waiting-state : map (λ (item : Item). item.snapshot.state) (drop 5 (heard waiting_run (serial waiting_run))) ≡ 0x041 ∷ []
-unfolding children acts each target function init first_part second_part third_part outside_acts clause_outside statements after_all inside_acts mention unlisted_in loops_in find still_in_scope after stands_in stands_among child_count names is_among with_each masked_badly critical_badly spoiled is_loop_inside not_listed slot_in construct_at slots_copied number_among shared_by_rule sharing_at copies_around statement_of from_place told_by_all with_parameters last_named first_named last_of_slot with_declarators clauses_among statements_among expression_among schedule_among listed_among with_listed with_slots combining_all trees_in flat_declarations function_among variables_among items_from_next silent printed_text text_behind_percent text_behind_backslash value values all_values descends_within last_where dealt_count critical_locks look_up in_order without with_owner call_of all_summoned arrival fault_of_point fault_of effect_of_point effect_of going_in_code at_back enabled_among serial_from silent_step state_of levels_from down_from regions_after walk unlimited turn enabled
+unfolding children acts each target function init first_part second_part third_part outside_acts clause_outside statements after_all inside_acts mention unlisted_in loops_in find still_in_scope after stands_in stands_among child_count names is_among with_each masked_badly critical_badly spoiled is_loop_inside not_listed slot_in construct_at slots_copied number_among shared_by_rule sharing_at copies_around statement_of from_place told_by_all with_parameters last_named first_named last_of_slot with_declarators clauses_among statements_among expression_among schedule_among listed_among with_listed with_slots combining_all trees_in flat_declarations function_among variables_among items_from_next silent printed_text text_behind_percent text_behind_backslash value values all_values descends_within last_where dealt_count critical_locks look_up in_order without with_owner call_of with_invitations arrival fault_of_point fault_of effect_of_point effect_of go_of_code at_back enabled_among serial_from silent_step state_of levels_from down_from regions_after walk unlimited turn enabled
 waiting-state = refl
 
 waiting-for : map (λ (item : Item). item.snapshot.wait_id) (drop 5 (heard waiting_run (serial waiting_run))) ≡ 65536 ∷ []
-unfolding children acts each target function init first_part second_part third_part outside_acts clause_outside statements after_all inside_acts mention unlisted_in loops_in find still_in_scope after stands_in stands_among child_count names is_among with_each masked_badly critical_badly spoiled is_loop_inside not_listed slot_in construct_at slots_copied number_among shared_by_rule sharing_at copies_around statement_of from_place told_by_all with_parameters last_named first_named last_of_slot with_declarators clauses_among statements_among expression_among schedule_among listed_among with_listed with_slots combining_all trees_in flat_declarations function_among variables_among items_from_next silent printed_text text_behind_percent text_behind_backslash value values all_values descends_within last_where dealt_count critical_locks look_up in_order without with_owner call_of all_summoned arrival fault_of_point fault_of effect_of_point effect_of going_in_code at_back enabled_among serial_from silent_step state_of levels_from down_from regions_after walk unlimited turn enabled
+unfolding children acts each target function init first_part second_part third_part outside_acts clause_outside statements after_all inside_acts mention unlisted_in loops_in find still_in_scope after stands_in stands_among child_count names is_among with_each masked_badly critical_badly spoiled is_loop_inside not_listed slot_in construct_at slots_copied number_among shared_by_rule sharing_at copies_around statement_of from_place told_by_all with_parameters last_named first_named last_of_slot with_declarators clauses_among statements_among expression_among schedule_among listed_among with_listed with_slots combining_all trees_in flat_declarations function_among variables_among items_from_next silent printed_text text_behind_percent text_behind_backslash value values all_values descends_within last_where dealt_count critical_locks look_up in_order without with_owner call_of with_invitations arrival fault_of_point fault_of effect_of_point effect_of go_of_code at_back enabled_among serial_from silent_step state_of levels_from down_from regions_after walk unlimited turn enabled
 waiting-for = refl
 
 -- Two sections among four members: 46 events, of which two tell that a section was taken.
@@ -381,11 +381,11 @@ abbrev shared_run : Run
 shared_run = run_of 4 1 shared_program
 
 shared-long : length (lines shared_run (serial shared_run)) ≡ 46
-unfolding children acts each target function init first_part second_part third_part outside_acts clause_outside statements after_all inside_acts mention unlisted_in loops_in find still_in_scope after stands_in stands_among child_count names is_among with_each masked_badly critical_badly spoiled is_loop_inside not_listed slot_in construct_at slots_copied number_among shared_by_rule sharing_at copies_around statement_of from_place told_by_all with_parameters last_named first_named last_of_slot with_declarators clauses_among statements_among expression_among schedule_among listed_among with_listed with_slots combining_all trees_in flat_declarations function_among variables_among items_from_next silent printed_text text_behind_percent text_behind_backslash value values all_values descends_within last_where dealt_count critical_locks look_up in_order without with_owner call_of all_summoned arrival fault_of_point fault_of effect_of_point effect_of going_in_code at_back enabled_among serial_from silent_step state_of levels_from down_from regions_after walk unlimited turn enabled
+unfolding children acts each target function init first_part second_part third_part outside_acts clause_outside statements after_all inside_acts mention unlisted_in loops_in find still_in_scope after stands_in stands_among child_count names is_among with_each masked_badly critical_badly spoiled is_loop_inside not_listed slot_in construct_at slots_copied number_among shared_by_rule sharing_at copies_around statement_of from_place told_by_all with_parameters last_named first_named last_of_slot with_declarators clauses_among statements_among expression_among schedule_among listed_among with_listed with_slots combining_all trees_in flat_declarations function_among variables_among items_from_next silent printed_text text_behind_percent text_behind_backslash value values all_values descends_within last_where dealt_count critical_locks look_up in_order without with_owner call_of with_invitations arrival fault_of_point fault_of effect_of_point effect_of go_of_code at_back enabled_among serial_from silent_step state_of levels_from down_from regions_after walk unlimited turn enabled
 shared-long = refl
 
 shared-ends : cause_of shared_run (serial shared_run) ≡ Some cause.Done
-unfolding children acts each target function init first_part second_part third_part outside_acts clause_outside statements after_all inside_acts mention unlisted_in loops_in find still_in_scope after stands_in stands_among child_count names is_among with_each masked_badly critical_badly spoiled is_loop_inside not_listed slot_in construct_at slots_copied number_among shared_by_rule sharing_at copies_around statement_of from_place told_by_all with_parameters last_named first_named last_of_slot with_declarators clauses_among statements_among expression_among schedule_among listed_among with_listed with_slots combining_all trees_in flat_declarations function_among variables_among items_from_next silent printed_text text_behind_percent text_behind_backslash value values all_values descends_within last_where dealt_count critical_locks look_up in_order without with_owner call_of all_summoned arrival fault_of_point fault_of effect_of_point effect_of going_in_code at_back enabled_among serial_from silent_step state_of levels_from down_from regions_after walk unlimited turn enabled
+unfolding children acts each target function init first_part second_part third_part outside_acts clause_outside statements after_all inside_acts mention unlisted_in loops_in find still_in_scope after stands_in stands_among child_count names is_among with_each masked_badly critical_badly spoiled is_loop_inside not_listed slot_in construct_at slots_copied number_among shared_by_rule sharing_at copies_around statement_of from_place told_by_all with_parameters last_named first_named last_of_slot with_declarators clauses_among statements_among expression_among schedule_among listed_among with_listed with_slots combining_all trees_in flat_declarations function_among variables_among items_from_next silent printed_text text_behind_percent text_behind_backslash value values all_values descends_within last_where dealt_count critical_locks look_up in_order without with_owner call_of with_invitations arrival fault_of_point fault_of effect_of_point effect_of go_of_code at_back enabled_among serial_from silent_step state_of levels_from down_from regions_after walk unlimited turn enabled
 shared-ends = refl
 
 -- A tool hears the begins of regions and worksharing, and stores 77 into the word of the region and 100 into that of the task.
@@ -429,9 +429,9 @@ storing-heard : lines storing_run storing_history ≡
     ∷ line 9 0 (call.Work 3 1 (record { identity = 2; value = 77 }) (word 2) 1 196609)
     ∷ line 12 0 (call.Work 3 2 (record { identity = 2; value = 77 }) (record { identity = 2; value = 100 }) 1 196609)
     ∷ []
-unfolding children acts each target function init first_part second_part third_part outside_acts clause_outside statements after_all inside_acts mention unlisted_in loops_in find still_in_scope after stands_in stands_among child_count names is_among with_each masked_badly critical_badly spoiled is_loop_inside not_listed slot_in construct_at slots_copied number_among shared_by_rule sharing_at copies_around statement_of from_place told_by_all with_parameters last_named first_named last_of_slot with_declarators clauses_among statements_among expression_among schedule_among listed_among with_listed with_slots combining_all trees_in flat_declarations function_among variables_among items_from_next silent printed_text text_behind_percent text_behind_backslash value values all_values descends_within last_where dealt_count critical_locks look_up in_order without with_owner call_of all_summoned arrival fault_of_point fault_of effect_of_point effect_of going_in_code at_back enabled_among serial_from silent_step state_of levels_from down_from regions_after walk unlimited turn enabled
+unfolding children acts each target function init first_part second_part third_part outside_acts clause_outside statements after_all inside_acts mention unlisted_in loops_in find still_in_scope after stands_in stands_among child_count names is_among with_each masked_badly critical_badly spoiled is_loop_inside not_listed slot_in construct_at slots_copied number_among shared_by_rule sharing_at copies_around statement_of from_place told_by_all with_parameters last_named first_named last_of_slot with_declarators clauses_among statements_among expression_among schedule_among listed_among with_listed with_slots combining_all trees_in flat_declarations function_among variables_among items_from_next silent printed_text text_behind_percent text_behind_backslash value values all_values descends_within last_where dealt_count critical_locks look_up in_order without with_owner call_of with_invitations arrival fault_of_point fault_of effect_of_point effect_of go_of_code at_back enabled_among serial_from silent_step state_of levels_from down_from regions_after walk unlimited turn enabled
 storing-heard = refl
 
 storing-allowed : Legal storing_run storing_history
-unfolding children acts each target function init first_part second_part third_part outside_acts clause_outside statements after_all inside_acts mention unlisted_in loops_in find still_in_scope after stands_in stands_among child_count names is_among with_each masked_badly critical_badly spoiled is_loop_inside not_listed slot_in construct_at slots_copied number_among shared_by_rule sharing_at copies_around statement_of from_place told_by_all with_parameters last_named first_named last_of_slot with_declarators clauses_among statements_among expression_among schedule_among listed_among with_listed with_slots combining_all trees_in flat_declarations function_among variables_among items_from_next silent printed_text text_behind_percent text_behind_backslash value values all_values descends_within last_where dealt_count critical_locks look_up in_order without with_owner call_of all_summoned arrival fault_of_point fault_of effect_of_point effect_of going_in_code at_back enabled_among serial_from silent_step state_of levels_from down_from regions_after walk unlimited turn enabled
+unfolding children acts each target function init first_part second_part third_part outside_acts clause_outside statements after_all inside_acts mention unlisted_in loops_in find still_in_scope after stands_in stands_among child_count names is_among with_each masked_badly critical_badly spoiled is_loop_inside not_listed slot_in construct_at slots_copied number_among shared_by_rule sharing_at copies_around statement_of from_place told_by_all with_parameters last_named first_named last_of_slot with_declarators clauses_among statements_among expression_among schedule_among listed_among with_listed with_slots combining_all trees_in flat_declarations function_among variables_among items_from_next silent printed_text text_behind_percent text_behind_backslash value values all_values descends_within last_where dealt_count critical_locks look_up in_order without with_owner call_of with_invitations arrival fault_of_point fault_of effect_of_point effect_of go_of_code at_back enabled_among serial_from silent_step state_of levels_from down_from regions_after walk unlimited turn enabled
 storing-allowed = (refl, (refl, (refl, (refl, (refl, (refl, (refl, (refl, (refl, (refl, (refl, (refl, (refl, (refl, tt))))))))))))))

@@ -13,7 +13,7 @@ use Rattle.c_model.specs.declared.question.Answer.TheVariants as answer
 use Rattle.c_model.specs.declared.upcoming.Upcoming.{Upcoming}
 use Rattle.c_model.specs.declared.upcoming.Upcoming.TheVariants as upcoming
 use Rattle.c_model.specs.declared.view.View.{View}
-use Rattle.c_model.specs.Going.{after_answer}
+use Rattle.c_model.specs.AfterEvents.{after_answer}
 use Rattle.c_model.specs.Step.{items_from_next, settled_moment, settled_task, silent}
 use Rattle.c_model.specs.Task.{Item, Moment, Task as Code}
 use Rattle.c_model.specs.Upcoming.{upcoming_among, upcoming_of}
@@ -22,7 +22,7 @@ use Rattle.task_pool.specs.Allowed.{newest_allowed}
 use Rattle.task_pool.specs.declared.task.TaskKind.{TaskKind}
 use Rattle.task_pool.specs.declared.task.TaskKind.TheVariants as kind
 use Rattle.omp_model.specs.declared.event.Arrival.{Arrival}
-use Rattle.omp_model.specs.declared.event.Arrival.TheVariants.{Comes, Meets, Steps, Waits}
+use Rattle.omp_model.specs.declared.event.Arrival.TheVariants.{CodeEvent, RuntimeEvent, Steps, Waits}
 use Rattle.omp_model.specs.declared.event.Event.TheVariants.{InitialTaskEnd, MemberBegin, TaskBegin, ThreadEnd}
 use Rattle.omp_model.specs.declared.event.Share.{Share}
 use Rattle.omp_model.specs.declared.limits.TheConstants.{IMPLICIT_REGION, INITIAL_TASK}
@@ -31,8 +31,8 @@ use Rattle.omp_model.specs.declared.parts.ThreadStage.TheVariants as thread_stag
 use Rattle.omp_model.specs.State.{Task, World, no_task, pooled_at, task_at, thread_at, with_task}
 use Rattle.omp_model.specs.Members.{code_of, current, current_region, moment_of, view_of}
 use Rattle.omp_model.specs.Gates.{all_left, arrival, arrival_around, arrival_at, arrival_at_end, arrival_at_sync, arrival_in, arrival_invited, arrival_of_task, arrival_of_worker, arrival_with_share, arrival_with_undeferred, arrival_without_task, comes_if, has_no_tasks, held_tasks, is_empty, is_in_barrier, main_returned, may_end, next_task, starts_if, waits_until, workers_over}
-use Rattle.omp_model.specs.Changes.{gone_past, gone_to, with_code}
-use Rattle.omp_model.specs.Going.{told}
+use Rattle.omp_model.specs.Changes.{with_masked_skipped, gone_to, with_code}
+use Rattle.omp_model.specs.EventEffects.{told}
 use Rattle.omp_model.proofs.Later.{at-set}
 
 -- leaving out twice is leaving out once
@@ -55,7 +55,7 @@ last-written (task ∷ tasks) (suc k) first last = ap (λ (others : List Task). 
 
 module _ (W : World) (t : ℕ) where
   abbrev past : World
-  past = gone_past W t
+  past = with_masked_skipped W t
 
   -- the task, and its code
   pub task-past : task_at past (current W t) ≡ record (task_at W (current W t)) { code = settled_task (view_of W t) (code_of W t) }
@@ -84,7 +84,7 @@ module _ (W : World) (t : ℕ) where
   view-past = refl
 
   -- going past twice is going past once
-  pub past-once : gone_past past t ≡ past
+  pub past-once : with_masked_skipped past t ≡ past
   past-once =
       let settled : settled_task (view_of W t) (code_of past t) ≡ code_of past t = ap (settled_task (view_of W t)) code-past ∙ (settled-once (view_of W t) (code_of W t) ∙ sym code-past) in
       ap (λ (code : Code). with_code past (current W t) code) settled
@@ -113,22 +113,22 @@ module _ (W : World) (t : ℕ) where
   upcoming-past = ap (upcoming_of (view_of W t)) code-past ∙ ap upcoming_among (next_once (view_of W t) (code_of W t).todo)
 
 -- What the thread comes to is the same, as far as the task that it would start while it waits is.
-module _ (W : World) (t : ℕ) (seen : Arrival → Arrival) (starts : seen (starts_if W t (next_task (gone_past W t) t)) ≡ seen (starts_if W t (next_task W t))) where
+module _ (W : World) (t : ℕ) (seen : Arrival → Arrival) (starts : seen (starts_if W t (next_task (with_masked_skipped W t) t)) ≡ seen (starts_if W t (next_task W t))) where
   abbrev V : World
-  V = gone_past W t
+  V = with_masked_skipped W t
 
   same-if : (one other another : Arrival) (b : Bool) → seen other ≡ seen another → seen (if b then one else other) ≡ seen (if b then one else another)
   same-if one other another true same = refl
   same-if one other another false same = same
 
   same-at-end : (k : ℕ) (which : TaskKind) → seen (arrival_at_end V t k which) ≡ seen (arrival_at_end W t k which)
-  same-at-end k kind.Initial = same-if (if workers_over W then Meets InitialTaskEnd else Waits) (starts_if W t (next_task V t)) (starts_if W t (next_task W t)) (has_no_tasks W (current_region W t)) starts
+  same-at-end k kind.Initial = same-if (if workers_over W then RuntimeEvent InitialTaskEnd else Waits) (starts_if W t (next_task V t)) (starts_if W t (next_task W t)) (has_no_tasks W (current_region W t)) starts
   same-at-end k kind.Implicit = refl
   same-at-end k kind.Explicit = refl
   same-at-end k kind.Undeferred = refl
 
   same-at-sync : (which : SyncKind) (at : SyncStage) → seen (arrival_at_sync V t which at) ≡ seen (arrival_at_sync W t which at)
-  same-at-sync which stage.WaitEnd = same-if Comes (starts_if W t (next_task V t)) (starts_if W t (next_task W t)) (may_end W t which) starts
+  same-at-sync which stage.WaitEnd = same-if CodeEvent (starts_if W t (next_task V t)) (starts_if W t (next_task W t)) (may_end W t which) starts
   same-at-sync which stage.RegionBegin = refl
   same-at-sync which stage.WaitBegin = refl
   same-at-sync which stage.RegionEnd = refl
@@ -148,7 +148,7 @@ module _ (W : World) (t : ℕ) (seen : Arrival → Arrival) (starts : seen (star
 
   same-without : current W t ≡ 0 → seen (arrival_without_task V t) ≡ seen (arrival_without_task W t)
   same-without none =
-      ap (λ (returned : Bool). seen (if t == 0 then arrival_around (pooled_at W INITIAL_TASK).condition else (if returned && has_no_tasks W IMPLICIT_REGION then Meets ThreadEnd else Waits))) (main-returned none)
+      ap (λ (returned : Bool). seen (if t == 0 then arrival_around (pooled_at W INITIAL_TASK).condition else (if returned && has_no_tasks W IMPLICIT_REGION then RuntimeEvent ThreadEnd else Waits))) (main-returned none)
 
   same-of-task : (b : Bool) → (current W t == 0) ≡ b →
       seen (if b then arrival_without_task V t else arrival_in V t (current W t) (upcoming_of (view_of W t) (code_of V t))) ≡
@@ -161,16 +161,16 @@ module _ (W : World) (t : ℕ) (seen : Arrival → Arrival) (starts : seen (star
   same-with-share None = same-of-task (current W t == 0) refl
 
   same-with-undeferred : (task : ℕ) (none : Bool) →
-      seen (if none then arrival_with_share V t (thread_at W t).taken else Meets (TaskBegin (current W t) task)) ≡
-      seen (if none then arrival_with_share W t (thread_at W t).taken else Meets (TaskBegin (current W t) task))
+      seen (if none then arrival_with_share V t (thread_at W t).taken else RuntimeEvent (TaskBegin (current W t) task)) ≡
+      seen (if none then arrival_with_share W t (thread_at W t).taken else RuntimeEvent (TaskBegin (current W t) task))
   same-with-undeferred task true = same-with-share (thread_at W t).taken
   same-with-undeferred task false = refl
 
   same-invited : (r : ℕ) (none : Bool) →
-      seen (if none then arrival_with_undeferred V t (thread_at W t).undeferred else Meets (MemberBegin r (length V.tasks))) ≡
-      seen (if none then arrival_with_undeferred W t (thread_at W t).undeferred else Meets (MemberBegin r (length W.tasks)))
+      seen (if none then arrival_with_undeferred V t (thread_at W t).undeferred else RuntimeEvent (MemberBegin r (length V.tasks))) ≡
+      seen (if none then arrival_with_undeferred W t (thread_at W t).undeferred else RuntimeEvent (MemberBegin r (length W.tasks)))
   same-invited r true = same-with-undeferred (thread_at W t).undeferred ((thread_at W t).undeferred == 0)
-  same-invited r false = ap (λ k. seen (Meets (MemberBegin r k))) (tasks-past W t)
+  same-invited r false = ap (λ k. seen (RuntimeEvent (MemberBegin r k))) (tasks-past W t)
 
   same-at-stage : (now : ThreadStage) → seen (arrival_at V t now) ≡ seen (arrival_at W t now)
   same-at-stage thread_stage.Unmade = refl
@@ -186,43 +186,43 @@ module _ (W : World) (t : ℕ) (seen : Arrival → Arrival) (starts : seen (star
 abbrev of_code : Arrival → Arrival
 of_code Waits = Waits
 of_code Steps = Steps
-of_code Comes = Comes
-of_code (Meets event) = Waits
+of_code CodeEvent = CodeEvent
+of_code (RuntimeEvent event) = Waits
 
 starts-no-code : (W : World) (t : ℕ) (next : Option ℕ) → of_code (starts_if W t next) ≡ Waits
 starts-no-code W t None = refl
 starts-no-code W t (Some task) = refl
 
-of-code-past : (W : World) (t : ℕ) → of_code (arrival (gone_past W t) t) ≡ of_code (arrival W t)
-of-code-past W t = seen-past W t of_code (starts-no-code W t (next_task (gone_past W t) t) ∙ sym (starts-no-code W t (next_task W t)))
+of-code-past : (W : World) (t : ℕ) → of_code (arrival (with_masked_skipped W t) t) ≡ of_code (arrival W t)
+of-code-past W t = seen-past W t of_code (starts-no-code W t (next_task (with_masked_skipped W t) t) ∙ sym (starts-no-code W t (next_task W t)))
 
-is-comes : (next : Arrival) → of_code next ≡ Comes → next ≡ Comes
+is-comes : (next : Arrival) → of_code next ≡ CodeEvent → next ≡ CodeEvent
 is-comes Waits is = cc
 is-comes Steps is = cc
-is-comes Comes is = refl
-is-comes (Meets event) is = cc
+is-comes CodeEvent is = refl
+is-comes (RuntimeEvent event) is = cc
 
 is-steps : (next : Arrival) → of_code next ≡ Steps → next ≡ Steps
 is-steps Waits is = cc
 is-steps Steps is = refl
-is-steps Comes is = cc
-is-steps (Meets event) is = cc
+is-steps CodeEvent is = cc
+is-steps (RuntimeEvent event) is = cc
 
 -- a thread that comes to an event of its code, or to a step, comes to one when its task has left out what it goes past
-pub comes-past : (W : World) (t : ℕ) → arrival W t ≡ Comes → arrival (gone_past W t) t ≡ Comes
-comes-past W t is = is-comes (arrival (gone_past W t) t) (of-code-past W t ∙ ap of_code is)
+pub comes-past : (W : World) (t : ℕ) → arrival W t ≡ CodeEvent → arrival (with_masked_skipped W t) t ≡ CodeEvent
+comes-past W t is = is-comes (arrival (with_masked_skipped W t) t) (of-code-past W t ∙ ap of_code is)
 
-pub steps-past : (W : World) (t : ℕ) → arrival W t ≡ Steps → arrival (gone_past W t) t ≡ Steps
-steps-past W t is = is-steps (arrival (gone_past W t) t) (of-code-past W t ∙ ap of_code is)
+pub steps-past : (W : World) (t : ℕ) → arrival W t ≡ Steps → arrival (with_masked_skipped W t) t ≡ Steps
+steps-past W t is = is-steps (arrival (with_masked_skipped W t) t) (of-code-past W t ∙ ap of_code is)
 
 -- .. and the same as before where that doesn't tell whether the task is in a barrier
 module _ (W : World) (t : ℕ) (same : is_in_barrier (settled_task (view_of W t) (code_of W t)).todo ≡ is_in_barrier (code_of W t).todo) where
-  barrier-past : (k : ℕ) → is_in_barrier (task_at (gone_past W t) k).code.todo ≡ is_in_barrier (task_at W k).code.todo
+  barrier-past : (k : ℕ) → is_in_barrier (task_at (with_masked_skipped W t) k).code.todo ≡ is_in_barrier (task_at W k).code.todo
   barrier-past k =
       at-set (λ (task : Task). is_in_barrier task.code.todo ≡ is_in_barrier (task_at W k).code.todo) no_task W.tasks (current W t) k _ refl (λ is. same ∙ ap (λ j. is_in_barrier (task_at W j).code.todo) (sym is))
 
-  pub held-past : held_tasks (gone_past W t) t ≡ held_tasks W t
+  pub held-past : held_tasks (with_masked_skipped W t) t ≡ held_tasks W t
   held-past = λ i. filter (λ (k : ℕ). not (barrier-past k i)) (thread_at W t).stack
 
-  pub arrival-past : arrival (gone_past W t) t ≡ arrival W t
+  pub arrival-past : arrival (with_masked_skipped W t) t ≡ arrival W t
   arrival-past = seen-past W t (λ next. next) (ap (λ (held : List ℕ). starts_if W t (newest_allowed W.pool.tasks W.pool.ready (current_region W t) held)) held-past)

@@ -10,8 +10,8 @@ use Rattle.omp_model.specs.declared.event.Event.TheVariants.{InitialTaskBegin, I
 use Rattle.omp_model.specs.declared.event.Halt.{Halt}
 use Rattle.omp_model.specs.State.{Run, Thread, World, thread_at}
 use Rattle.omp_model.specs.Conditions.{AreOrderly}
-use Rattle.omp_model.specs.Going.{Happens, effect_of, effect_of_point, event_of_point, fault_of, fault_of_point, going_by, going_in_code, past_point, told, unless}
-use Rattle.omp_model.specs.Made.{IsMadeWorld}
+use Rattle.omp_model.specs.EventEffects.{Happens, effect_of, effect_of_point, event_of_point, fault_of, fault_of_point, going_by, go_of_code, past_point, told, unless}
+use Rattle.omp_model.specs.MadeWorld.{IsMadeWorld}
 use Rattle.omp_model.specs.Members.{current, view_of}
 use Rattle.omp_model.proofs.Touching.{TouchesWorld, is_of_code, thread_after}
 use Rattle.omp_model.specs.Turn.{goes_on}
@@ -42,8 +42,8 @@ by-outcome run W after t e made some (Traps trap) is = cc
 by-outcome run W after t e made some (Limits limit) is = cc
 
 in-code : (run : Run) (W after : World) (t : ℕ) (e : Event) → IsMadeWorld W → 1 ≤ current W t →
-    going_in_code run W t ≡ Happens e after → TouchesWorld W after t e
-unfolding going_in_code
+    go_of_code run W t ≡ Happens e after → TouchesWorld W after t e
+unfolding go_of_code
 in-code run W after t e made some is = by-outcome run W after t e made some (silent run.program (view_of W t) (told W t)) is
 
 pub touches-world : (run : Run) (W after : World) (t : ℕ) (e : Event) → IsMadeWorld W → AreOrderly W → GoOf run W t e after → TouchesWorld W after t e

@@ -16,9 +16,9 @@ use Rattle.omp_model.specs.declared.event.Share.{Share}
 use Rattle.omp_model.specs.declared.parts.ThreadStage.TheVariants as thread_stage
 use Rattle.omp_model.specs.State.{Region, Task, Thread, World, no_region, no_task, pooled_at, region_at, task_at, task_with, thread_at, unmade}
 use Rattle.omp_model.specs.Members.{current, member_index}
-use Rattle.omp_model.specs.Changes.{emptied, member_begun, popped, started, taken_up, task_made}
-use Rattle.omp_model.specs.Going.{effect_of, member_code}
-use Rattle.omp_model.specs.Made.{IsMadeWorld, IsTask, IsThread}
+use Rattle.omp_model.specs.Changes.{without_code, member_begun, without_current_task, with_started_task, taken_up, task_made}
+use Rattle.omp_model.specs.EventEffects.{effect_of, member_code}
+use Rattle.omp_model.specs.MadeWorld.{IsMadeWorld, IsTask, IsThread}
 use Rattle.omp_model.specs.Conditions.{AreOrderly, IsUnderWay, member_made}
 use Rattle.omp_model.proofs.Touching.{TouchesWorld, come_to, ended_on, joined_by, started_on}
 use Rattle.omp_model.proofs.Arriving.{AtEnd, AtInitialEnd, AtMember, AtSwitch, Reached}
@@ -158,7 +158,7 @@ initial-end-beside W t there made all is =
     let e = event.InitialTaskEnd in
     let k = INITIAL_TASK in
     let thread = ended_on (thread_at W t) in
-    subst (λ X. TouchesWorld W X t e) (sym (finished-is (popped W t) k (current-started W t k all is (rw (← is) (omega arith)))))
+    subst (λ X. TouchesWorld W X t e) (sym (finished-is (without_current_task W t) k (current-started W t k all is (rw (← is) (omega arith)))))
     (record {
       own = own-thread W t there thread;
       others = other-thread W t there thread;
@@ -185,7 +185,7 @@ member-end-beside W t r k there made all at =
     let some : 1 ≤ current W t = rw (← at.task) at.some in
     let one = current-task W t k made at.task some in
     let blank : Task = record (task_at W k) { code = blank_task } in
-    subst (λ X. TouchesWorld W (emptied X k) t e) (sym (finished-is (popped W t) k (current-started W t k all at.task some)))
+    subst (λ X. TouchesWorld W (without_code X k) t e) (sym (finished-is (without_current_task W t) k (current-started W t k all at.task some)))
     (record {
       own = own-thread W t there thread;
       others = other-thread W t there thread;
@@ -290,7 +290,7 @@ joins-below W t r k made at = subst (λ q. q < length W.regions) (sym at.region)
 
 -- its task starts, since it was made just now
 pub member-starts : (W : World) (r : ℕ) → IsMadeWorld W → AreOrderly W → let fresh = member_made W r in
-    started fresh (length W.tasks) ≡ record fresh { pool = with_started fresh.pool (length W.tasks) }
+    with_started_task fresh (length W.tasks) ≡ record fresh { pool = with_started fresh.pool (length W.tasks) }
 member-starts W r made all =
     let parent = (region_at W r).head.task in
     let new-code = member_code (task_at W parent).code in
@@ -308,7 +308,7 @@ member-beside W t r k there made all at =
 
 -- a task that is ready, or undeferred, starts
 pub task-starts : (W : World) (t prior k : ℕ) → AreOrderly W → AtSwitch W t prior k →
-    started (taken_up W t k) k ≡ record (taken_up W t k) { pool = with_started W.pool k }
+    with_started_task (taken_up W t k) k ≡ record (taken_up W t k) { pool = with_started W.pool k }
 task-starts W t prior k all at = started-is (taken_up W t k) k (unfinished-yet (pooled_at W k).condition (begins-unstarted W t k all at.task))
 
 -- the initial task ends where it is the current one

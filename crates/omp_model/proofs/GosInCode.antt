@@ -14,7 +14,7 @@ use Rattle.c_model.specs.declared.point.Work.TheVariants as work
 use Rattle.c_model.specs.declared.point.WorkKind.{WorkKind}
 use Rattle.c_model.specs.declared.point.WorkKind.TheVariants as work_kind
 use Rattle.c_model.specs.Begin.{explicit_task}
-use Rattle.c_model.specs.Going.{after_event}
+use Rattle.c_model.specs.AfterEvents.{after_event}
 use Rattle.c_model.specs.Task.{Task as Code}
 use Rattle.sync_objects.specs.View.{LocksView}
 use Rattle.task_pool.specs.declared.task.Task.{Task as PoolTask}
@@ -29,9 +29,9 @@ use Rattle.omp_model.specs.declared.event.Event.TheVariants as event
 use Rattle.omp_model.specs.declared.event.Halt.TheVariants.{Trap}
 use Rattle.omp_model.specs.State.{Region, Run, Task, Thread, World, fresh_region, no_region, no_task, pooled_at, region_at, task_at, task_with, thread_at}
 use Rattle.omp_model.specs.Members.{current, current_index, current_region, view_of}
-use Rattle.omp_model.specs.Changes.{met, with_code}
-use Rattle.omp_model.specs.Going.{after_creation, after_fork, after_meeting_at, after_sync, barrier_met, effect_of_point, event_of_point, executes_point, executes_work, fault_of_meeting, fault_of_point, kind_of_task, meeting_at, past_point, single_kind, team_size, told, work_met}
-use Rattle.omp_model.specs.Made.{IsMadeWorld}
+use Rattle.omp_model.specs.Changes.{with_member_meeting, with_code}
+use Rattle.omp_model.specs.EventEffects.{after_creation, after_fork, after_meeting_at, after_sync, barrier_met, effect_of_point, event_of_point, executes_point, executes_work, fault_of_meeting, fault_of_point, kind_of_task, meeting_at, past_point, single_kind, team_size, told, work_met}
+use Rattle.omp_model.specs.MadeWorld.{IsMadeWorld}
 use Rattle.omp_model.proofs.Touching.{TouchesWorld, Meets, TeamAfter, forked_after, head_after, locks_after, owner_after, pooled_after, regions_after, tasks_after, thread_after}
 use Rattle.omp_model.proofs.Conditions.{pooled-added}
 use Rattle.omp_model.proofs.Guards.{member-made}
@@ -157,7 +157,7 @@ module _ (run : Run) (W : World) (t : ℕ) (made : IsMadeWorld W) (some : 1 ≤ 
 
   -- .. which it does, since it is one
   meets-is : (what : Meeting) → after_meeting_at W t what ≡ changed W (teamed (meeting what)) W.locks
-  meets-is what = ap (λ b. if b then met W (current_region W t) (current_index W t) what else W) (member-made W t made some)
+  meets-is what = ap (λ b. if b then with_member_meeting W (current_region W t) (current_index W t) what else W) (member-made W t made some)
 
   in-region : (what : Point) (change : Region → Region) → is_plain what ≡ true → ((region : Region) → (change region).head ≡ region.head) →
       ((q : ℕ) → (region_at W q).head ≡ head_after W t (event_of_point W t what) q) →

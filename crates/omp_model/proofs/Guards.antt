@@ -6,7 +6,7 @@ use Rattle.omp_model.specs.State.{Run, State, World, region_at}
 use Rattle.omp_model.specs.Members.{current, current_index, current_team, is_member}
 use Rattle.omp_model.specs.Turn.{walk}
 use Rattle.omp_model.specs.Legal.{after}
-use Rattle.omp_model.specs.Made.{IsMadeWorld, IsRegion, IsTeam}
+use Rattle.omp_model.specs.MadeWorld.{IsMadeWorld, IsRegion, IsTeam}
 use Rattle.omp_model.proofs.AlikeWorlds.{made-alike, quiet-walk}
 use Rattle.omp_model.proofs.MadeEvents.{current-made}
 use Rattle.omp_model.proofs.MadeRuns.{made-after}

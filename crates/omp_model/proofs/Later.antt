@@ -4,7 +4,7 @@ use Rattle.std.proofs.lemmas.List.Elements.{All-weaker}
 use Rattle.omp_model.specs.declared.limits.TheConstants.{IMPLICIT_REGION}
 use Rattle.omp_model.specs.State.{Region, Thread, World, region_at}
 use Rattle.omp_model.specs.Members.{is_outermost, region_of}
-use Rattle.omp_model.specs.Made.{IsTask, IsRegion, IsThread, IsRegionOf, IsTaskOf, MadeThread, MadeRegion, IsMadeWorld}
+use Rattle.omp_model.specs.MadeWorld.{IsTask, IsRegion, IsThread, IsRegionOf, IsTaskOf, MadeThread, MadeRegion, IsMadeWorld}
 
 -- what is so of an element, and of what is written in its place, is so of it after a write
 pub at-set : {A : Type 0} (P : A → Type 0) (d : A) (xs : List A) (i k : ℕ) (x : A) → P (slice_index_or xs k d) → (k ≡ i → P x) → P (slice_index_or (slice_set xs i x) k d)

@@ -12,7 +12,7 @@ use Rattle.c_model.specs.declared.point.SyncStage.TheVariants as stage
 use Rattle.c_model.specs.declared.point.Work.{Work}
 use Rattle.c_model.specs.declared.point.Work.TheVariants as work
 use Rattle.c_model.specs.Begin.{blank_task, explicit_task}
-use Rattle.c_model.specs.Going.{after_event}
+use Rattle.c_model.specs.AfterEvents.{after_event}
 use Rattle.c_model.specs.Step.{silent}
 use Rattle.c_model.specs.Task.{Moment, Outcome, Task as Code}
 use Rattle.c_model.specs.Task.Outcome.{Occurs}
@@ -30,11 +30,11 @@ use Rattle.omp_model.specs.declared.event.Halt.{Halt}
 use Rattle.omp_model.specs.State.{Run, Thread, World, fresh_region, region_at, task_at, task_with, thread_at, unmade}
 use Rattle.omp_model.specs.Members.{current, current_index, current_region, current_team, is_member, is_outermost, member_index, region_of, view_of}
 use Rattle.omp_model.specs.Gates.{held_tasks, is_barrier, next_task}
-use Rattle.omp_model.specs.Changes.{begun, emptied, finished, member_begun, met, passed, popped, region_made, started, taken_up, task_made, with_code}
-use Rattle.omp_model.specs.Going.{Going, Nothing, Happens, Halts, after_creation, after_fork, after_meeting_at, after_member, after_sync, barrier_met, effect_of, effect_of_point, event_of_point, executes_point, fault_of, fault_of_point, going_beside, going_by, going_in_code, kind_of_task, member_code, past_point, team_size, told, trap_if, unless, work_begin, work_met}
+use Rattle.omp_model.specs.Changes.{with_wait_begun, without_code, with_finished_task, member_begun, with_member_meeting, with_barrier_passed, without_current_task, region_made, with_started_task, taken_up, task_made, with_code}
+use Rattle.omp_model.specs.EventEffects.{Going, Nothing, Happens, Halts, after_creation, after_fork, after_meeting_at, after_member, after_sync, barrier_met, effect_of, effect_of_point, event_of_point, executes_point, fault_of, fault_of_point, go_of_runtime, going_by, go_of_code, kind_of_task, member_code, past_point, team_size, told, trap_if, unless, work_begin, work_met}
 use Rattle.omp_model.specs.Returning.{after_created, at_back}
 use Rattle.omp_model.specs.Words.{is_made_thread, stored}
-use Rattle.omp_model.specs.Made.{HasOccurred, IsMadeWorld, IsRegion, IsRegionOf, IsTask, IsTaskOf, IsThread, MadeEvent, MadeMember, MadeRegion}
+use Rattle.omp_model.specs.MadeWorld.{HasOccurred, IsMadeWorld, IsRegion, IsRegionOf, IsTask, IsTaskOf, IsThread, MadeEvent, MadeMember, MadeRegion}
 use Rattle.omp_model.proofs.AlikeWorlds.{alike-stored, made-alike}
 use Rattle.omp_model.proofs.Arriving.{AtEnd, Begins, Ready, Reached, Undeferred, ready-within}
 use Rattle.omp_model.proofs.Later.{Later, region-later, region-of-later, task-later, task-of-later}
@@ -163,7 +163,7 @@ unfolding effect_of
 after-initial W t made is =
     let one : IsTaskOf W t INITIAL_TASK = record { made = made.initial; within = subst (λ u. IsRegionOf W u (region_of W INITIAL_TASK)) (sym is) (zero-member W (region_of W INITIAL_TASK) made (made.placed INITIAL_TASK made.initial)) } in
     let W1 = taken_up W t INITIAL_TASK in
-    let W2 = started W1 INITIAL_TASK in
+    let W2 = with_started_task W1 INITIAL_TASK in
     let up = after-taken_up W t INITIAL_TASK made one in
     let on = after-then W W1 W2 made up (after-started W1 INITIAL_TASK up.world) in
     after-then W W2 (effect_of W t event.InitialTaskBegin) made on (after-head W2 IMPLICIT_REGION _ on.world refl refl)
@@ -179,9 +179,9 @@ member-task W t parent r k which code made one is =
     }
 
 -- it starts on the thread, and the region has it
-after-joined : (W : World) (t r i k : ℕ) → IsMadeWorld W → IsTaskOf W t k → MadeAfter W (member_begun (taken_up (started W k) t k) r i k)
+after-joined : (W : World) (t r i k : ℕ) → IsMadeWorld W → IsTaskOf W t k → MadeAfter W (member_begun (taken_up (with_started_task W k) t k) r i k)
 after-joined W t r i k made one =
-    let W2 = started W k in
+    let W2 = with_started_task W k in
     let W3 = taken_up W2 t k in
     let on = after-started W k made in
     let up = after-then W W2 W3 made on (after-taken_up W2 t k on.world (task-of-later W W2 made on.later t k one)) in
@@ -210,26 +210,26 @@ go-named : (W after : World) (t : ℕ) (e : Event) → IsMadeWorld W → IsThrea
 go-named W after t e made there whole named =
     record { whole = whole; occurred = record { thread = whole.later.stages t there; named = event-later W after t e made whole.later named } }
 
-after-popped-then : (W after : World) (t : ℕ) → IsMadeWorld W → (IsMadeWorld (popped W t) → MadeAfter (popped W t) after) → MadeAfter W after
-after-popped-then W after t made more = let off = after-popped W t made in after-then W (popped W t) after made off (more off.world)
+after-popped-then : (W after : World) (t : ℕ) → IsMadeWorld W → (IsMadeWorld (without_current_task W t) → MadeAfter (without_current_task W t) after) → MadeAfter W after
+after-popped-then W after t made more = let off = after-popped W t made in after-then W (without_current_task W t) after made off (more off.world)
 
 go-beside : (W : World) (t : ℕ) (e : Event) → IsMadeWorld W → IsThread W t → Coming W t e → MadeGo W (effect_of W t e) t e
 unfolding effect_of
 go-beside W t event.ThreadBegin made there comes = go-named W _ t event.ThreadBegin made there (after-own W t _ made refl refl refl (λ is. refl)) tt
 go-beside W t event.InitialTaskBegin made there comes = go-named W _ t event.InitialTaskBegin made there (after-initial W t made comes) tt
 go-beside W t event.InitialTaskEnd made there comes =
-    go-named W _ t event.InitialTaskEnd made there (after-popped-then W (finished (popped W t) INITIAL_TASK) t made (after-finished (popped W t) INITIAL_TASK)) tt
+    go-named W _ t event.InitialTaskEnd made there (after-popped-then W (with_finished_task (without_current_task W t) INITIAL_TASK) t made (after-finished (without_current_task W t) INITIAL_TASK)) tt
 go-beside W t (event.MemberBegin r k) made there comes = go-member W t r k made there comes
 go-beside W t (event.MemberEnd r k) made there comes =
-    let W2 = finished (popped W t) k in
+    let W2 = with_finished_task (without_current_task W t) k in
     go-named W _ t (event.MemberEnd r k) made there
-    (after-popped-then W (emptied W2 k) t made (λ off. let over = after-finished (popped W t) k off in after-then (popped W t) W2 (emptied W2 k) off over (after-code W2 k blank_task over.world))) comes
+    (after-popped-then W (without_code W2 k) t made (λ off. let over = after-finished (without_current_task W t) k off in after-then (without_current_task W t) W2 (without_code W2 k) off over (after-code W2 k blank_task over.world))) comes
 go-beside W t (event.TaskBegin prior task) made there comes =
     let up = after-taken_up W t task made comes.task in
     go-named W _ t (event.TaskBegin prior task) made there
-    (after-then W (taken_up W t task) (started (taken_up W t task) task) made up (after-started (taken_up W t task) task up.world)) (record { before = comes.before; task = comes.task.made })
+    (after-then W (taken_up W t task) (with_started_task (taken_up W t task) task) made up (after-started (taken_up W t task) task up.world)) (record { before = comes.before; task = comes.task.made })
 go-beside W t (event.TaskEnd task) made there comes =
-    go-named W _ t (event.TaskEnd task) made there (after-popped-then W (emptied (popped W t) task) t made (after-code (popped W t) task blank_task)) comes
+    go-named W _ t (event.TaskEnd task) made there (after-popped-then W (without_code (without_current_task W t) task) t made (after-code (without_current_task W t) task blank_task)) comes
 go-beside W t (event.Dispatch share) made there comes = go-named W _ t (event.Dispatch share) made there (after-own W t _ made refl refl refl (λ is. is)) tt
 go-beside W t (event.ParallelBegin r requested codeptr) made there comes = absurd comes
 go-beside W t (event.ParallelEnd r codeptr) made there comes = absurd comes
@@ -298,14 +298,14 @@ met-members team i what = length-set _ _ _ ∙ placed-members team _ what
 
 after-met : (W : World) (t : ℕ) (what : Meeting) → IsMadeWorld W → MadeAfter W (after_meeting_at W t what)
 after-met W t what made =
-    after-either W (met W (current_region W t) (current_index W t) what) W (is_member W t)
+    after-either W (with_member_meeting W (current_region W t) (current_index W t) what) W (is_member W t)
     (after-team W (current_region W t) _ made (met-members (current_team W t) (current_index W t) what)) (after-same W made)
 
 after-synced : (W : World) (t codeptr : ℕ) (which : SyncKind) (at : SyncStage) → IsMadeWorld W → MadeAfter W (after_sync W t codeptr which at)
 after-synced W t codeptr which stage.RegionBegin made =
     after-either W (after_meeting_at W t (barrier_met codeptr which)) W (is_barrier which) (after-met W t (barrier_met codeptr which) made) (after-same W made)
 after-synced W t codeptr which stage.WaitEnd made =
-    after-either W (passed W (current_region W t) (current_index W t)) W (is_barrier which)
+    after-either W (with_barrier_passed W (current_region W t) (current_index W t)) W (is_barrier which)
     (after-team W (current_region W t) _ made (length-set _ _ _)) (after-same W made)
 after-synced W t codeptr which other made = after-same W made
 
@@ -352,11 +352,11 @@ going-outcome run W t now (Occurs what tree) made there one =
     (λ fine. go-past W between t (current between t) (after_event (view_of W t) what (executes_point W t what) now.task) (event_of_point W t what) made (go-effect run W t now what made there one fine))
 going-outcome run W t now other made there one = tt
 
-pub in_code-made : (run : Run) (W : World) (t : ℕ) → IsMadeWorld W → IsThread W t → IsTaskOf W t (current W t) → MadeGoing W t (going_in_code run W t)
-unfolding going_in_code
+pub in_code-made : (run : Run) (W : World) (t : ℕ) → IsMadeWorld W → IsThread W t → IsTaskOf W t (current W t) → MadeGoing W t (go_of_code run W t)
+unfolding go_of_code
 in_code-made run W t made there one = going-outcome run W t (told W t) (silent run.program (view_of W t) (told W t)) made there one
 
-pub beside-made : (W : World) (t : ℕ) (e : Event) → IsMadeWorld W → IsThread W t → Coming W t e → MadeGoing W t (going_beside W t e)
+pub beside-made : (W : World) (t : ℕ) (e : Event) → IsMadeWorld W → IsThread W t → Coming W t e → MadeGoing W t (go_of_runtime W t e)
 beside-made W t e made there comes = going-unless W (effect_of W t e) t (fault_of W t e) e (λ fine. go-beside W t e made there comes)
 
 -- What takes hold at a Back.
@@ -374,7 +374,7 @@ back-made W t (event.MemberEnd r k) made named = after-head W r _ made refl refl
 back-made W t (event.TaskCreate task undeferred codeptr) made named = after-created W t task undeferred made named
 back-made W t (event.TaskEnd task) made named = after-finished W task made
 back-made W t (event.Sync which stage.WaitBegin codeptr) made named =
-    after-either W (begun W (current_region W t) (current_index W t)) W (is_barrier which) (after-team W (current_region W t) _ made (length-set _ _ _)) (after-same W made)
+    after-either W (with_wait_begun W (current_region W t) (current_index W t)) W (is_barrier which) (after-team W (current_region W t) _ made (length-set _ _ _)) (after-same W made)
 back-made W t other made named = after-same W made
 
 -- What a tool stores.

@@ -14,12 +14,12 @@ use Rattle.omp_model.specs.declared.event.Outcome.TheVariants as outcome
 use Rattle.omp_model.specs.State.{Run, State, World, first, first_world, pending_at, region_at, task_at, thread_at, unmade}
 use Rattle.omp_model.specs.Members.{region_of}
 use Rattle.omp_model.proofs.Alike.{QuietWorld}
-use Rattle.omp_model.specs.Changes.{gone_past}
+use Rattle.omp_model.specs.Changes.{with_masked_skipped}
 use Rattle.omp_model.specs.Returning.{at_back}
 use Rattle.omp_model.specs.Words.{stored}
 use Rattle.omp_model.specs.Turn.{called, goes_on, turn}
 use Rattle.omp_model.specs.Legal.{after, back_from, does, put_from}
-use Rattle.omp_model.specs.Made.{IsIdentity, IsMadeState, IsMadeWorld, MadePending, MadeRegion, MadeThread}
+use Rattle.omp_model.specs.MadeWorld.{IsIdentity, IsMadeState, IsMadeWorld, MadePending, MadeRegion, MadeThread}
 use Rattle.omp_model.proofs.Later.{Later, at-set}
 use Rattle.omp_model.proofs.AlikeWorlds.{alike-past, quiet-turn, made-alike}
 use Rattle.omp_model.proofs.MadeWords.{MadeAfter, after-then}
@@ -59,8 +59,8 @@ pub turn-made : (run : Run) (S : State) (t : ℕ) → IsMadeWorld S.world → Ma
 turn-made run S t made = turned run S.world (turn run S t).state.world t (turn run S t).outcome made (quiet-turn run t S)
 
 -- what a task goes past
-pub past-made : (W : World) (t : ℕ) → IsMadeWorld W → IsMadeWorld (gone_past W t)
-past-made W t made = (made-alike W (gone_past W t) (alike-past W t) made).world
+pub past-made : (W : World) (t : ℕ) → IsMadeWorld W → IsMadeWorld (with_masked_skipped W t)
+past-made W t made = (made-alike W (with_masked_skipped W t) (alike-past W t) made).world
 
 -- States.
 

@@ -20,8 +20,8 @@ use Rattle.omp_model.specs.declared.parts.ThreadStage.TheVariants as stage
 use Rattle.omp_model.specs.State.{Region, Task, Thread, World, is_under_way, no_region, no_task, pooled_at, region_at, task_at, task_with, thread_at, unmade, with_region, with_task, with_thread}
 use Rattle.omp_model.specs.Members.{is_outermost, region_of}
 use Rattle.omp_model.specs.Words.{is_made_thread}
-use Rattle.omp_model.specs.Changes.{all_summoned, detained, finished, is_fresh, made, opened, popped, readied, region_made, started, summoned, taken_up, task_made, pushed, with_code, with_head, with_team}
-use Rattle.omp_model.specs.Made.{IsTask, IsRegion, IsForkedRegion, IsThread, IsRegionOf, IsTaskOf, MadeThread, MadeRegion, IsMadeWorld}
+use Rattle.omp_model.specs.Changes.{with_invitations, with_undeferred, with_finished_task, is_fresh, stage_once_made, with_members_invited, without_current_task, with_ready_task, region_made, with_started_task, with_invitation, taken_up, task_made, with_current_task, with_code, with_head, with_team}
+use Rattle.omp_model.specs.MadeWorld.{IsTask, IsRegion, IsForkedRegion, IsThread, IsRegionOf, IsTaskOf, MadeThread, MadeRegion, IsMadeWorld}
 use Rattle.omp_model.proofs.Later.{at-set, SameTeam, same-team, Later, later-same, later-then, task-later, region-later, thread-later, made-region-later}
 
 -- a later world in which all that is named was made
@@ -176,17 +176,17 @@ after-condition : (W : World) (k : ℕ) (now : Condition) (ready : List ℕ) →
 after-condition W k now ready made all =
     after-pool W (record W.pool { tasks = with_condition W.pool.tasks k now; ready = ready }) made (condition-count W.pool.tasks k now) (condition-region W.pool.tasks k now) all
 
-pub after-readied : (W : World) (k : ℕ) → IsMadeWorld W → IsTask W k → MadeAfter W (readied W k)
+pub after-readied : (W : World) (k : ℕ) → IsMadeWorld W → IsTask W k → MadeAfter W (with_ready_task W k)
 after-readied W k made one =
     after-either W (record W { pool = with_ready W.pool k }) W (is_fresh (pooled_at W k).condition)
     (after-condition W k condition.Ready (W.pool.ready ++ k ∷ []) made (All-push (IsTask W) W.pool.ready k made.ready one)) (after-same W made)
 
-pub after-started : (W : World) (k : ℕ) → IsMadeWorld W → MadeAfter W (started W k)
+pub after-started : (W : World) (k : ℕ) → IsMadeWorld W → MadeAfter W (with_started_task W k)
 after-started W k made =
     after-either W W (record W { pool = with_started W.pool k }) (is_finished (pooled_at W k).condition) (after-same W made)
     (after-condition W k condition.Started (filter (is_other k) W.pool.ready) made (All-filter (is_other k) (IsTask W) W.pool.ready made.ready))
 
-pub after-finished : (W : World) (k : ℕ) → IsMadeWorld W → MadeAfter W (finished W k)
+pub after-finished : (W : World) (k : ℕ) → IsMadeWorld W → MadeAfter W (with_finished_task W k)
 after-finished W k made =
     after-either W (record W { pool = with_finished W.pool k }) W (is_under_way (pooled_at W k).condition)
     (after-condition W k condition.Finished W.pool.ready made made.ready) (after-same W made)
@@ -253,32 +253,32 @@ after-region_made W region made one some =
     ]) made.ready
 
 -- threads are to join a region
-pub at-summoned : (P : Thread → Type 0) (r size : ℕ) (threads : List Thread) (u : ℕ) → P (slice_index_or threads u unmade) → (u < size → P (summoned r (slice_index_or threads u unmade))) → P (slice_index_or (all_summoned r size threads) u unmade)
-unfolding all_summoned
+pub at-summoned : (P : Thread → Type 0) (r size : ℕ) (threads : List Thread) (u : ℕ) → P (slice_index_or threads u unmade) → (u < size → P (with_invitation r (slice_index_or threads u unmade))) → P (slice_index_or (with_invitations r size threads) u unmade)
+unfolding with_invitations
 at-summoned P r zero threads u old new = old
 at-summoned P r (suc size) [] u old new = old
 at-summoned P r (suc size) (thread ∷ threads) zero old new = new (omega arith)
 at-summoned P r (suc size) (thread ∷ threads) (suc u) old new = at-summoned P r size threads u old (λ within. new (omega arith))
 
-pub length-summoned : (r size : ℕ) (threads : List Thread) → length (all_summoned r size threads) ≡ length threads
-unfolding all_summoned
+pub length-summoned : (r size : ℕ) (threads : List Thread) → length (with_invitations r size threads) ≡ length threads
+unfolding with_invitations
 length-summoned r zero threads = refl
 length-summoned r (suc size) [] = refl
 length-summoned r (suc size) (thread ∷ threads) = ap suc (length-summoned r size threads)
 
-made-stage : (now : ThreadStage) → is_made_thread (made now) ≡ true
+made-stage : (now : ThreadStage) → is_made_thread (stage_once_made now) ≡ true
 made-stage stage.Unmade = refl
 made-stage stage.Made = refl
 made-stage stage.Begun = refl
 made-stage stage.Ended = refl
 
-thread-summoned : (W : World) (u r : ℕ) (thread : Thread) → MadeThread W u thread → IsRegionOf W u r → 2 ≤ r → MadeThread W u (summoned r thread)
+thread-summoned : (W : World) (u r : ℕ) (thread : Thread) → MadeThread W u thread → IsRegionOf W u r → 2 ≤ r → MadeThread W u (with_invitation r thread)
 thread-summoned W u r thread one joins two = record { stacked = one.stacked; joins = λ some. joins; forks = λ some. two; starts = one.starts }
 
-after-all_summoned : (W : World) (r : ℕ) → IsMadeWorld W → 2 ≤ r → ((u : ℕ) → u < (region_at W r).head.size → IsRegionOf W u r) → MadeAfter W (record W { threads = all_summoned r (region_at W r).head.size W.threads })
+after-all_summoned : (W : World) (r : ℕ) → IsMadeWorld W → 2 ≤ r → ((u : ℕ) → u < (region_at W r).head.size → IsRegionOf W u r) → MadeAfter W (record W { threads = with_invitations r (region_at W r).head.size W.threads })
 after-all_summoned W r made two joins =
     let size = (region_at W r).head.size in
-    let after : World = record W { threads = all_summoned r size W.threads } in
+    let after : World = record W { threads = with_invitations r size W.threads } in
     let later : Later W after = record {
       threads = length-summoned r size W.threads;
       stages = λ u there. at-summoned (λ (x : Thread). is_made_thread x.stage ≡ true) r size W.threads u there (λ within. made-stage (thread_at W u).stage);
@@ -290,28 +290,28 @@ after-all_summoned W r made two joins =
     after-kept W after made later (record { tasks = refl; pool = refl; regions = refl })
     (λ u. at-summoned (MadeThread W u) r size W.threads u (made.threads u) (λ within. thread-summoned W u r (thread_at W u) (made.threads u) (joins u within) two)) made.forked made.ready
 
-pub after-opened : (W : World) (t r : ℕ) → IsMadeWorld W → IsForkedRegion W r → MadeAfter W (opened W t r)
+pub after-opened : (W : World) (t r : ℕ) → IsMadeWorld W → IsForkedRegion W r → MadeAfter W (with_members_invited W t r)
 after-opened W t r made one =
     let region = made.regions r one.made in
-    elim (is_outermost W r) as (λ b. is_outermost W r ≡ b → MadeAfter W (if b then record W { threads = all_summoned r (region_at W r).head.size W.threads } else with_thread W t (summoned r (thread_at W t)))) [
+    elim (is_outermost W r) as (λ b. is_outermost W r ≡ b → MadeAfter W (if b then record W { threads = with_invitations r (region_at W r).head.size W.threads } else with_thread W t (with_invitation r (thread_at W t)))) [
       | true ↦ λ is. after-all_summoned W r made one.forked (λ u within. record { made = one.made; member = rw (is, region.team) within })
-      | false ↦ λ is. after-thread W t (summoned r (thread_at W t)) made (thread-summoned W t r (thread_at W t) (made.threads t) (record { made = one.made; member = rw (is, region.team) region.some }) one.forked) (λ there. made-stage (thread_at W t).stage)
+      | false ↦ λ is. after-thread W t (with_invitation r (thread_at W t)) made (thread-summoned W t r (thread_at W t) (made.threads t) (record { made = one.made; member = rw (is, region.team) region.some }) one.forked) (λ there. made-stage (thread_at W t).stage)
     ] refl
 
 -- a thread takes a task up
 pub after-taken_up : (W : World) (t k : ℕ) → IsMadeWorld W → IsTaskOf W t k → MadeAfter W (taken_up W t k)
 after-taken_up W t k made one =
     let thread = made.threads t in
-    let up : MadeAfter W (pushed W t k) =
+    let up : MadeAfter W (with_current_task W t k) =
     after-thread W t _ made (record { stacked = All-cons (IsTaskOf W t) k (thread_at W t).stack one thread.stacked; joins = λ some. absurd (omega arith); forks = λ some. absurd (omega arith); starts = λ some. absurd (omega arith) }) (λ there. there) in
-    after-then W (pushed W t k) (taken_up W t k) made up (after-task (pushed W t k) k _ up.world (made.forked k))
+    after-then W (with_current_task W t k) (taken_up W t k) made up (after-task (with_current_task W t k) k _ up.world (made.forked k))
 
-pub after-popped : (W : World) (t : ℕ) → IsMadeWorld W → MadeAfter W (popped W t)
+pub after-popped : (W : World) (t : ℕ) → IsMadeWorld W → MadeAfter W (without_current_task W t)
 after-popped W t made =
     let thread = made.threads t in
     after-thread W t _ made (record { stacked = All-drop (IsTaskOf W t) 1 (thread_at W t).stack thread.stacked; joins = thread.joins; forks = thread.forks; starts = thread.starts }) (λ there. there)
 
-pub after-detained : (W : World) (t k : ℕ) → IsMadeWorld W → IsTaskOf W t k → MadeAfter W (detained W t k)
+pub after-detained : (W : World) (t k : ℕ) → IsMadeWorld W → IsTaskOf W t k → MadeAfter W (with_undeferred W t k)
 after-detained W t k made one =
     let thread = made.threads t in after-thread W t _ made (record { stacked = thread.stacked; joins = thread.joins; forks = thread.forks; starts = λ some. one }) (λ there. there)
 

@@ -15,9 +15,9 @@ use Rattle.task_pool.specs.View.{fresh_task, is_other, with_finished, with_ready
 use Rattle.omp_model.specs.declared.limits.TheConstants.{INITIAL_TASK}
 use Rattle.omp_model.specs.State.{Task, Thread, World, is_under_way, no_task, pooled_at, task_at, task_with, thread_at, unmade}
 use Rattle.omp_model.specs.Members.{current}
-use Rattle.omp_model.specs.Changes.{detained, finished, is_fresh, popped, readied, started, taken_up, task_made}
+use Rattle.omp_model.specs.Changes.{with_undeferred, with_finished_task, is_fresh, without_current_task, with_ready_task, with_started_task, taken_up, task_made}
 use Rattle.omp_model.specs.Words.{is_made_thread}
-use Rattle.omp_model.specs.Made.{IsMadeWorld, IsTask, IsThread}
+use Rattle.omp_model.specs.MadeWorld.{IsMadeWorld, IsTask, IsThread}
 use Rattle.omp_model.specs.Conditions.{AreOrderly, Distinct, HasEnded, IsReady, IsToStart, IsUnderWay, Lacks, WasCreated, WasTakenUp, has_started}
 use Rattle.omp_model.proofs.MadeWords.{added-last, pool-at}
 use Rattle.omp_model.proofs.Conditions.{Apart, Change, OrderlyAfter, Own, apart-finished, apart-to-start, apart-under-way, by-condition, orderly-change, pooled-added, pooled-other, pooled-same, ready-later, to-start-later, under-way-later}
@@ -112,7 +112,7 @@ orderly-beginning W t k all made there one un apart =
     (all-others (IsReady W) (IsReady after) k W.pool.ready all.ready (λ j so other. ready-later k W after change j other so))
 
 -- it does so where it hasn't finished
-pub started-is : (W : World) (k : ℕ) → is_finished (pooled_at W k).condition ≡ false → started W k ≡ record W { pool = with_started W.pool k }
+pub started-is : (W : World) (k : ℕ) → is_finished (pooled_at W k).condition ≡ false → with_started_task W k ≡ record W { pool = with_started W.pool k }
 started-is W k un = ap (λ b. if b then W else record W { pool = with_started W.pool k }) un
 
 -- A task is taken off the thread's stack.
@@ -121,7 +121,7 @@ off-top : (stack : List ℕ) → Distinct stack → 1 ≤ slice_index_or stack 0
 off-top [] distinct some = absurd (omega arith)
 off-top (k ∷ rest) distinct some = distinct
 
-popped-is : (W : World) (t : ℕ) → IsThread W t → thread_at (popped W t) t ≡ record (thread_at W t) { stack = drop 1 (thread_at W t).stack }
+popped-is : (W : World) (t : ℕ) → IsThread W t → thread_at (without_current_task W t) t ≡ record (thread_at W t) { stack = drop 1 (thread_at W t).stack }
 popped-is W t there = get_or-set_same W.threads t _ unmade (thread-within W.threads t there)
 
 -- what the thread is to start isn't under way
@@ -141,9 +141,9 @@ ready-apart : (W : World) (t k j : ℕ) → IsUnderWay W t k → IsReady W j →
 ready-apart W t k j one it is = by-condition W k j condition.Started condition.Ready one.started it (λ same. cc) is
 
 -- the current task is taken off
-pub orderly-popped : (W : World) (t k : ℕ) → AreOrderly W → IsThread W t → k ≡ current W t → 1 ≤ k → IsUnderWay W t k → OrderlyAfter t W (popped W t)
+pub orderly-popped : (W : World) (t k : ℕ) → AreOrderly W → IsThread W t → k ≡ current W t → 1 ≤ k → IsUnderWay W t k → OrderlyAfter t W (without_current_task W t)
 orderly-popped W t k all there top some one =
-    let after = popped W t in
+    let after = without_current_task W t in
     let change : Change k W after = record {
       pool = λ j other. refl;
       holders = λ j other. refl;
@@ -156,18 +156,18 @@ orderly-popped W t k all there top some one =
     (All-weaker (IsReady W) (IsReady after) (λ j it. ready-later k W after change j (ready-apart W t k j one it) it) W.pool.ready all.ready)
 
 -- it is off the stack then
-pub popped-ended : (W : World) (t k : ℕ) → AreOrderly W → IsThread W t → k ≡ current W t → 1 ≤ k → IsUnderWay W t k → HasEnded (popped W t) t k
+pub popped-ended : (W : World) (t k : ℕ) → AreOrderly W → IsThread W t → k ≡ current W t → 1 ≤ k → IsUnderWay W t k → HasEnded (without_current_task W t) t k
 popped-ended W t k all there top some one =
     let off = off-top (thread_at W t).stack (all.distinct t) (rw (← top) some) in
     record { task = record { started = one.started; thread = one.thread }; off = rw (popped-is W t there, top) off.0 }
 
 -- A task finishes.
 
-pub finished-is : (W : World) (k : ℕ) → (pooled_at W k).condition ≡ condition.Started → finished W k ≡ record W { pool = with_finished W.pool k }
+pub finished-is : (W : World) (k : ℕ) → (pooled_at W k).condition ≡ condition.Started → with_finished_task W k ≡ record W { pool = with_finished W.pool k }
 finished-is W k is = ap (λ now. if is_under_way now then record W { pool = with_finished W.pool k } else W) is
 
 -- where its thread no longer holds it
-pub orderly-finished : (W : World) (t k : ℕ) → AreOrderly W → IsMadeWorld W → IsTask W k → HasEnded W t k → OrderlyAfter t W (finished W k)
+pub orderly-finished : (W : World) (t k : ℕ) → AreOrderly W → IsMadeWorld W → IsTask W k → HasEnded W t k → OrderlyAfter t W (with_finished_task W k)
 orderly-finished W t k all made one ended =
     let after : World = record W { pool = with_finished W.pool k } in
     let it = ended.task in
@@ -182,13 +182,13 @@ orderly-finished W t k all made one ended =
 
 -- A task is made ready.
 
-pub readied-is : (W : World) (k : ℕ) → (pooled_at W k).condition ≡ condition.Made → readied W k ≡ record W { pool = with_ready W.pool k }
+pub readied-is : (W : World) (k : ℕ) → (pooled_at W k).condition ≡ condition.Made → with_ready_task W k ≡ record W { pool = with_ready W.pool k }
 readied-is W k is = ap (λ now. if is_fresh now then record W { pool = with_ready W.pool k } else W) is
 
 made-apart : (W : World) (t k j : ℕ) → IsToStart W t k → IsUnderWay W t j → j ≡ k → ⊥
 made-apart W t k j one it is = by-condition W k j condition.Made condition.Started one.made it.started (λ same. cc) is
 
-pub orderly-readied : (W : World) (t k : ℕ) → AreOrderly W → IsMadeWorld W → IsTask W k → WasCreated W t k → OrderlyAfter t W (readied W k)
+pub orderly-readied : (W : World) (t k : ℕ) → AreOrderly W → IsMadeWorld W → IsTask W k → WasCreated W t k → OrderlyAfter t W (with_ready_task W k)
 orderly-readied W t k all made one created =
     let after : World = record W { pool = with_ready W.pool k } in
     let it = created.task in
@@ -203,9 +203,9 @@ orderly-readied W t k all made one created =
 
 -- The thread is to start the task.
 
-pub orderly-detained : (W : World) (t k : ℕ) → AreOrderly W → IsThread W t → IsToStart W t k → OrderlyAfter t W (detained W t k)
+pub orderly-detained : (W : World) (t k : ℕ) → AreOrderly W → IsThread W t → IsToStart W t k → OrderlyAfter t W (with_undeferred W t k)
 orderly-detained W t k all there one =
-    let after = detained W t k in
+    let after = with_undeferred W t k in
     let change : Change k W after = record {
       pool = λ j other. refl;
       holders = λ j other. refl;

@@ -28,7 +28,7 @@ use Rattle.omp_model.specs.Snapshots.{down_from, fresh_of, levels_from, lowest_o
 use Rattle.omp_model.specs.Turn.{turn}
 use Rattle.omp_model.specs.Legal.{after}
 use Rattle.omp_model.specs.Words.{is_made_identity, null_word, region_word, task_word, thread_word}
-use Rattle.omp_model.specs.Made.{HasOccurred, IsIdentity, IsMadeWorld, IsTask, IsTaskOf, IsThread, MadeEvent}
+use Rattle.omp_model.specs.MadeWorld.{HasOccurred, IsIdentity, IsMadeWorld, IsTask, IsTaskOf, IsThread, MadeEvent}
 use Rattle.omp_model.specs.Named.{AreWords, IsMade, IsMadeCall, IsMadeFresh, IsMadeLevel, IsMadeRegionLevel, IsMadeSnapshot, IsRegionWord, IsTaskWord, IsThreadWord}
 use Rattle.omp_model.proofs.MadeEvents.{MadeGo, current-below}
 use Rattle.omp_model.proofs.MadeRuns.{MadeTurn, made-after, turn-made}

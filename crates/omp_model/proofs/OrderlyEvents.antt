@@ -28,10 +28,10 @@ use Rattle.omp_model.specs.declared.event.Halt.{Halt}
 use Rattle.omp_model.specs.State.{Region, Run, Thread, World, pooled_at, region_at, task_at, task_with, thread_at, with_thread}
 use Rattle.omp_model.specs.Members.{current, current_index, current_region, is_member, is_outermost, view_of}
 use Rattle.omp_model.specs.Gates.{held_tasks, is_barrier, next_task}
-use Rattle.omp_model.specs.Changes.{all_summoned, begun, emptied, finished, met, opened, passed, popped, started, summoned, taken_up, task_made}
-use Rattle.omp_model.specs.Going.{Going, Nothing, Happens, Halts, after_creation, after_meeting_at, after_member, after_sync, barrier_met, effect_of, effect_of_point, event_of_point, fault_of, fault_of_point, going_beside, going_by, going_in_code, kind_of_task, member_code, past_point, told, unless, work_begin, work_met}
+use Rattle.omp_model.specs.Changes.{with_invitations, with_wait_begun, without_code, with_finished_task, with_member_meeting, with_members_invited, with_barrier_passed, without_current_task, with_started_task, with_invitation, taken_up, task_made}
+use Rattle.omp_model.specs.EventEffects.{Going, Nothing, Happens, Halts, after_creation, after_meeting_at, after_member, after_sync, barrier_met, effect_of, effect_of_point, event_of_point, fault_of, fault_of_point, go_of_runtime, going_by, go_of_code, kind_of_task, member_code, past_point, told, unless, work_begin, work_met}
 use Rattle.omp_model.specs.Returning.{after_created, at_back}
-use Rattle.omp_model.specs.Made.{HasOccurred, IsMadeWorld, IsRegionOf, IsTask, IsThread}
+use Rattle.omp_model.specs.MadeWorld.{HasOccurred, IsMadeWorld, IsRegionOf, IsTask, IsThread}
 use Rattle.omp_model.specs.Conditions.{AreOrderly, EventOrderly, IsReady, IsToStart, IsUnderWay, WasCreated, has_started}
 use Rattle.omp_model.proofs.Arriving.{AtEnd, Begins, Ready, Reached, Undeferred}
 use Rattle.omp_model.proofs.MadeWords.{after-popped, after-task_made}
@@ -53,8 +53,8 @@ still-own W t thread stack undeferred = still-thread W t thread (record { stack 
 still-met : (W : World) (t codeptr : ℕ) (which : SyncKind) (at : SyncStage) → Still W (after_sync W t codeptr which at)
 still-met W t codeptr which stage.RegionBegin =
     let what = barrier_met codeptr which in
-    still-either W (after_meeting_at W t what) W (is_barrier which) (still-either W (met W (current_region W t) (current_index W t) what) W (is_member W t) (still-regions W _) (still-same W)) (still-same W)
-still-met W t codeptr which stage.WaitEnd = still-either W (passed W (current_region W t) (current_index W t)) W (is_barrier which) (still-regions W _) (still-same W)
+    still-either W (after_meeting_at W t what) W (is_barrier which) (still-either W (with_member_meeting W (current_region W t) (current_index W t) what) W (is_member W t) (still-regions W _) (still-same W)) (still-same W)
+still-met W t codeptr which stage.WaitEnd = still-either W (with_barrier_passed W (current_region W t) (current_index W t)) W (is_barrier which) (still-regions W _) (still-same W)
 still-met W t codeptr which other = still-same W
 
 -- Events.
@@ -109,7 +109,7 @@ go-effect run W t now (point.ParallelBegin codeptr requested) all made some =
 go-effect run W t now (point.ParallelEnd codeptr) all made some = go-still W _ t (event.ParallelEnd (task_at W (current W t)).forked codeptr) all (still-regions W _) tt
 go-effect run W t now (point.TaskCreate codeptr undeferred) all made some = go-creation run W t codeptr now undeferred all made some
 go-effect run W t now (point.WorkBegin codeptr what) all made some =
-    go-still W _ t (work_begin W t codeptr what) all (still-either W (met W (current_region W t) (current_index W t) (work_met codeptr what)) W (is_member W t) (still-regions W _) (still-same W)) (work-orderly W _ t codeptr what)
+    go-still W _ t (work_begin W t codeptr what) all (still-either W (with_member_meeting W (current_region W t) (current_index W t) (work_met codeptr what)) W (is_member W t) (still-regions W _) (still-same W)) (work-orderly W _ t codeptr what)
 go-effect run W t now (point.Sync codeptr which at) all made some = go-still W _ t (event.Sync which at codeptr) all (still-met W t codeptr which at) tt
 go-effect run W t now (point.MutexAcquired codeptr id which) all made some = go-still W _ t (event.MutexAcquired which id codeptr) all (still-store W W.store _) tt
 go-effect run W t now (point.MutexReleased codeptr id which) all made some = go-still W _ t (event.MutexReleased which id codeptr) all (still-store W W.store _) tt
@@ -134,8 +134,8 @@ going-outcome run W t now (Occurs what tree) all made some =
     (go-then W between (past_point W between t now what) t e (go-effect run W t now what all made some) (still-task between (current between t) _ refl))
 going-outcome run W t now other all made some = tt
 
-pub in_code-orderly : (run : Run) (W : World) (t : ℕ) → AreOrderly W → IsMadeWorld W → 1 ≤ current W t → OrderlyGoing W t (going_in_code run W t)
-unfolding going_in_code
+pub in_code-orderly : (run : Run) (W : World) (t : ℕ) → AreOrderly W → IsMadeWorld W → 1 ≤ current W t → OrderlyGoing W t (go_of_code run W t)
+unfolding go_of_code
 in_code-orderly run W t all made some = going-outcome run W t (told W t) (silent run.program (view_of W t) (told W t)) all made some
 
 -- Events beside all code.
@@ -145,11 +145,11 @@ unfinished-yet condition.Finished un = un
 unfinished-yet other un = refl
 
 -- a task that was made before begins
-begins-on : (W : World) (t k : ℕ) → AreOrderly W → IsMadeWorld W → IsThread W t → IsTask W k → has_started (pooled_at W k).condition ≡ false → Apart W t k → OrderlyAfter t W (started (taken_up W t k) k)
+begins-on : (W : World) (t k : ℕ) → AreOrderly W → IsMadeWorld W → IsThread W t → IsTask W k → has_started (pooled_at W k).condition ≡ false → Apart W t k → OrderlyAfter t W (with_started_task (taken_up W t k) k)
 begins-on W t k all made there one un apart =
     subst (OrderlyAfter t W) (sym (started-is (taken_up W t k) k (unfinished-yet (pooled_at W k).condition un))) (orderly-beginning W t k all made there one un apart)
 
-begins-initial : (W : World) (t : ℕ) → AreOrderly W → IsMadeWorld W → IsThread W t → (pooled_at W INITIAL_TASK).condition ≡ condition.Made → OrderlyAfter t W (started (taken_up W t INITIAL_TASK) INITIAL_TASK)
+begins-initial : (W : World) (t : ℕ) → AreOrderly W → IsMadeWorld W → IsThread W t → (pooled_at W INITIAL_TASK).condition ≡ condition.Made → OrderlyAfter t W (with_started_task (taken_up W t INITIAL_TASK) INITIAL_TASK)
 begins-initial W t all made there fresh =
     begins-on W t INITIAL_TASK all made there made.initial (ap has_started fresh) (apart-implicit W t INITIAL_TASK fresh (ap is_explicit all.initial))
 
@@ -175,7 +175,7 @@ begins-member W t r all made there one =
     let code = member_code (task_at W parent).code in
     let k = length W.tasks in
     let W1 = task_made W parent r kind.Implicit code in
-    let W3 = taken_up (started W1 k) t k in
+    let W3 = taken_up (with_started_task W1 k) t k in
     let plain = plain-implicit in
     let created = orderly-made W parent r kind.Implicit code all made plain t in
     let now = fresh-is W parent r kind.Implicit code all made plain in
@@ -194,19 +194,19 @@ begins-member W t r all made there one =
 pub ending : (W : World) (t k : ℕ) → AreOrderly W → AtEnd W t k → IsUnderWay W t k
 ending W t k all at = subst (IsUnderWay W t) (sym at.task) (current-under-way W t all (rw (← at.task) at.some))
 
-ends : (W : World) (t k : ℕ) → AreOrderly W → IsMadeWorld W → IsThread W t → AtEnd W t k → OrderlyAfter t W (finished (popped W t) k)
+ends : (W : World) (t k : ℕ) → AreOrderly W → IsMadeWorld W → IsThread W t → AtEnd W t k → OrderlyAfter t W (with_finished_task (without_current_task W t) k)
 ends W t k all made there at =
     let one = ending W t k all at in
     let off = orderly-popped W t k all there at.task at.some one in
     let task : IsTask W k = subst (IsTask W) (sym at.task) (current-made W t made (rw (← at.task) at.some)).made in
-    orderly-then t W (popped W t) (finished (popped W t) k) off
-    (orderly-finished (popped W t) t k off.world (after-popped W t made).world (record { some = task.some; below = task.below }) (popped-ended W t k all there at.task at.some one))
+    orderly-then t W (without_current_task W t) (with_finished_task (without_current_task W t) k) off
+    (orderly-finished (without_current_task W t) t k off.world (after-popped W t made).world (record { some = task.some; below = task.below }) (popped-ended W t k all there at.task at.some one))
 
 go-beside : (W : World) (t : ℕ) (e : Event) → AreOrderly W → IsMadeWorld W → IsThread W t → Reached W t e → OrderlyGo W (effect_of W t e) t e
 unfolding effect_of
 go-beside W t event.ThreadBegin all made there at = go-still W _ t event.ThreadBegin all (still-own W t _ refl refl) tt
 go-beside W t event.InitialTaskBegin all made there at =
-    let W2 = started (taken_up W t INITIAL_TASK) INITIAL_TASK in
+    let W2 = with_started_task (taken_up W t INITIAL_TASK) INITIAL_TASK in
     go-then W W2 _ t event.InitialTaskBegin (record { whole = begins-initial W t all made there at.condition; occurred = tt }) (still-regions W2 _)
 go-beside W t event.InitialTaskEnd all made there at =
     let first = all.alone (current W t) at.kind in
@@ -215,22 +215,22 @@ go-beside W t (event.MemberBegin r k) all made there at =
     let comes = coming W t made (event.MemberBegin r k) at in
     record { whole = subst (λ j. OrderlyAfter t W (after_member W t r j)) (sym at.task) (begins-member W t r all made there comes.region); occurred = tt }
 go-beside W t (event.MemberEnd r k) all made there at =
-    let W2 = finished (popped W t) k in
-    go-then W W2 (emptied W2 k) t (event.MemberEnd r k) (record { whole = ends W t k all made there at.end; occurred = tt }) (still-task W2 k _ refl)
+    let W2 = with_finished_task (without_current_task W t) k in
+    go-then W W2 (without_code W2 k) t (event.MemberEnd r k) (record { whole = ends W t k all made there at.end; occurred = tt }) (still-task W2 k _ refl)
 go-beside W t (event.TaskBegin prior task) all made there at =
     record { whole = begins-on W t task all made there (coming W t made (event.TaskBegin prior task) at).task.made (begins-unstarted W t task all at.task) (begins-apart W t task all at.task); occurred = tt }
 go-beside W t (event.TaskEnd task) all made there at =
     let one = ending W t task all at.end in
-    go-then W (popped W t) (emptied (popped W t) task) t (event.TaskEnd task)
+    go-then W (without_current_task W t) (without_code (without_current_task W t) task) t (event.TaskEnd task)
     (record { whole = orderly-popped W t task all there at.end.task at.end.some one; occurred = popped-ended W t task all there at.end.task at.end.some one })
-    (still-task (popped W t) task _ refl)
+    (still-task (without_current_task W t) task _ refl)
 go-beside W t (event.Dispatch share) all made there at = go-still W _ t (event.Dispatch share) all (still-own W t _ refl refl) tt
 go-beside W t (event.ParallelBegin r requested codeptr) all made there at = absurd at
 go-beside W t (event.ParallelEnd r codeptr) all made there at = absurd at
 go-beside W t (event.TaskCreate task undeferred codeptr) all made there at = absurd at
 go-beside W t other all made there at = record { whole = after-still t W W all (still-same W); occurred = tt }
 
-pub beside-orderly : (W : World) (t : ℕ) (e : Event) → AreOrderly W → IsMadeWorld W → IsThread W t → Reached W t e → OrderlyGoing W t (going_beside W t e)
+pub beside-orderly : (W : World) (t : ℕ) (e : Event) → AreOrderly W → IsMadeWorld W → IsThread W t → Reached W t e → OrderlyGoing W t (go_of_runtime W t e)
 beside-orderly W t e all made there at = going-unless W (effect_of W t e) t (fault_of W t e) e (go-beside W t e all made there at)
 
 -- What takes hold at a Back.
@@ -243,12 +243,12 @@ pub back-orderly : (W : World) (t : ℕ) (e : Event) → AreOrderly W → IsMade
 unfolding at_back
 back-orderly W t event.ThreadEnd all made was so = after-still t W _ all (still-own W t _ refl refl)
 back-orderly W t (event.ParallelBegin r requested codeptr) all made was so =
-    after-still t W (opened W t r) all
-    (still-either W (record W { threads = all_summoned r (region_at W r).head.size W.threads }) (with_thread W t (summoned r (thread_at W t))) (is_outermost W r) (still-summoned W r (region_at W r).head.size) (still-own W t _ refl refl))
+    after-still t W (with_members_invited W t r) all
+    (still-either W (record W { threads = with_invitations r (region_at W r).head.size W.threads }) (with_thread W t (with_invitation r (thread_at W t))) (is_outermost W r) (still-summoned W r (region_at W r).head.size) (still-own W t _ refl refl))
 back-orderly W t (event.ParallelEnd r codeptr) all made was so = after-still t W _ all (still-task W (current W t) _ refl)
 back-orderly W t (event.MemberEnd r k) all made was so = after-still t W _ all (still-regions W _)
 back-orderly W t (event.TaskCreate task undeferred codeptr) all made was so = after-creation W t task undeferred all made was.thread was.named.made so
 back-orderly W t (event.TaskEnd task) all made was so = orderly-finished W t task all made was.named so
 back-orderly W t (event.Sync which stage.WaitBegin codeptr) all made was so =
-    after-still t W _ all (still-either W (begun W (current_region W t) (current_index W t)) W (is_barrier which) (still-regions W _) (still-same W))
+    after-still t W _ all (still-either W (with_wait_begun W (current_region W t) (current_index W t)) W (is_barrier which) (still-regions W _) (still-same W))
 back-orderly W t other all made was so = after-still t W W all (still-same W)

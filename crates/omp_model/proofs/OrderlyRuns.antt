@@ -21,7 +21,7 @@ use Rattle.omp_model.proofs.Alike.{QuietWorld}
 use Rattle.omp_model.specs.Words.{stored}
 use Rattle.omp_model.specs.Turn.{called, goes_on, turn, walk}
 use Rattle.omp_model.specs.Legal.{after, back_from, does, put_from}
-use Rattle.omp_model.specs.Made.{IsMadeState, IsMadeWorld, MadePending}
+use Rattle.omp_model.specs.MadeWorld.{IsMadeState, IsMadeWorld, MadePending}
 use Rattle.omp_model.specs.Conditions.{AreOrderly, EventOrderly, IsOrderly, IsUnderWay, PendingOrderly}
 use Rattle.omp_model.proofs.Later.{at-set}
 use Rattle.omp_model.proofs.AlikeWorlds.{alike-stored, made-alike, quiet-turn, quiet-walk, still-alike}

@@ -21,7 +21,7 @@ use Rattle.omp_model.specs.declared.event.Outcome.TheVariants.{Happens}
 use Rattle.omp_model.specs.State.{Run, State, World, pending_at, thread_at, unmade}
 use Rattle.omp_model.specs.Calls.{callback_of}
 use Rattle.omp_model.specs.Legal.{after, is_told, may_put, put, put_from}
-use Rattle.omp_model.specs.Made.{IsThread}
+use Rattle.omp_model.specs.MadeWorld.{IsThread}
 use Rattle.omp_model.specs.Named.{IsMade}
 use Rattle.omp_model.specs.Snapshots.{snap_of}
 use Rattle.omp_model.specs.Storing.{MayStore}

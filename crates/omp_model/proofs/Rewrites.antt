@@ -3,8 +3,8 @@ use Rattle.std.proofs.Common.{◌≡◌, ℕ, zero, suc, ◌<◌, ◌≤◌, ◌
 use Rattle.std.proofs.lemmas.Bool.{cases_lt, le-ltb, lt-ltb}
 use Rattle.task_pool.specs.declared.task.Condition.{Condition}
 use Rattle.task_pool.specs.Tasks.{task_at as pool_task_at, with_condition}
-use Rattle.omp_model.specs.Changes.{all_summoned, summoned}
-use Rattle.omp_model.specs.Made.{IsMadeWorld, IsTask, IsThread}
+use Rattle.omp_model.specs.Changes.{with_invitations, with_invitation}
+use Rattle.omp_model.specs.MadeWorld.{IsMadeWorld, IsTask, IsThread}
 use Rattle.omp_model.specs.Members.{current, current_region, region_of}
 use Rattle.omp_model.specs.State.{Region, Thread, World, pooled_at, unmade}
 use Rattle.omp_model.proofs.Touching.{come_to}
@@ -24,9 +24,9 @@ read-pool W k now j made one =
 
 -- of a thread where the first ones, so many, are to join a region
 pub read-summoned : (r size : ℕ) (threads : List Thread) (u : ℕ) → size ≤ length threads →
-    slice_index_or (all_summoned r size threads) u unmade ≡
-    (if nat_lt u size then summoned r (slice_index_or threads u unmade) else slice_index_or threads u unmade)
-unfolding all_summoned
+    slice_index_or (with_invitations r size threads) u unmade ≡
+    (if nat_lt u size then with_invitation r (slice_index_or threads u unmade) else slice_index_or threads u unmade)
+unfolding with_invitations
 read-summoned r zero threads u fits = rw (le-ltb u 0 (omega arith)) refl
 read-summoned r (suc size) [] u fits = absurd (omega arith)
 read-summoned r (suc size) (thread ∷ threads) zero fits = rw (lt-ltb 0 (suc size) (omega arith)) refl

@@ -39,9 +39,9 @@ use Rattle.task_pool.specs.Allowed.{descends_within, last_where}
 use Rattle.team_parts.specs.Chunks.{dealt_count}
 use Rattle.sync_objects.specs.Owners.{critical_locks, look_up, in_order, without, with_owner}
 use Rattle.omp_model.specs.Calls.{call_of}
-use Rattle.omp_model.specs.Changes.{all_summoned}
+use Rattle.omp_model.specs.Changes.{with_invitations}
 use Rattle.omp_model.specs.Gates.{arrival}
-use Rattle.omp_model.specs.Going.{fault_of_point, fault_of, effect_of_point, effect_of, going_in_code}
+use Rattle.omp_model.specs.EventEffects.{fault_of_point, fault_of, effect_of_point, effect_of, go_of_code}
 use Rattle.omp_model.specs.Returning.{at_back}
 use Rattle.omp_model.specs.Serial.{enabled_among, serial_from}
 use Rattle.omp_model.specs.Silent.{silent_step}
@@ -66,7 +66,7 @@ empty : Runs empty_run cause.Done 8 (
     ∷ line 4 0 (call.ImplicitTask 2 (word 0) (word 1) 0 1 1)
     ∷ line 6 0 (call.ThreadEnd (word 1))
     ∷ [])
-unfolding children acts each target function init first_part second_part third_part outside_acts clause_outside statements after_all inside_acts mention unlisted_in loops_in find still_in_scope after stands_in stands_among child_count names is_among with_each masked_badly critical_badly spoiled is_loop_inside not_listed slot_in construct_at slots_copied number_among shared_by_rule sharing_at copies_around statement_of from_place told_by_all with_parameters last_named first_named last_of_slot with_declarators clauses_among statements_among expression_among schedule_among listed_among with_listed with_slots combining_all trees_in flat_declarations function_among variables_among items_from_next silent printed_text text_behind_percent text_behind_backslash value values all_values descends_within last_where dealt_count critical_locks look_up in_order without with_owner call_of all_summoned arrival fault_of_point fault_of effect_of_point effect_of going_in_code at_back enabled_among serial_from silent_step state_of levels_from down_from regions_after walk unlimited turn enabled
+unfolding children acts each target function init first_part second_part third_part outside_acts clause_outside statements after_all inside_acts mention unlisted_in loops_in find still_in_scope after stands_in stands_among child_count names is_among with_each masked_badly critical_badly spoiled is_loop_inside not_listed slot_in construct_at slots_copied number_among shared_by_rule sharing_at copies_around statement_of from_place told_by_all with_parameters last_named first_named last_of_slot with_declarators clauses_among statements_among expression_among schedule_among listed_among with_listed with_slots combining_all trees_in flat_declarations function_among variables_among items_from_next silent printed_text text_behind_percent text_behind_backslash value values all_values descends_within last_where dealt_count critical_locks look_up in_order without with_owner call_of with_invitations arrival fault_of_point fault_of effect_of_point effect_of go_of_code at_back enabled_among serial_from silent_step state_of levels_from down_from regions_after walk unlimited turn enabled
 empty = record { told = refl; ends = refl; long = refl }
 
 -- int main(void) {
@@ -110,7 +110,7 @@ two : Runs two_run cause.Done 41 (
     ∷ line 37 0 (call.ImplicitTask 2 (word 0) (word 1) 0 1 1)
     ∷ line 39 0 (call.ThreadEnd (word 1))
     ∷ [])
-unfolding children acts each target function init first_part second_part third_part outside_acts clause_outside statements after_all inside_acts mention unlisted_in loops_in find still_in_scope after stands_in stands_among child_count names is_among with_each masked_badly critical_badly spoiled is_loop_inside not_listed slot_in construct_at slots_copied number_among shared_by_rule sharing_at copies_around statement_of from_place told_by_all with_parameters last_named first_named last_of_slot with_declarators clauses_among statements_among expression_among schedule_among listed_among with_listed with_slots combining_all trees_in flat_declarations function_among variables_among items_from_next silent printed_text text_behind_percent text_behind_backslash value values all_values descends_within last_where dealt_count critical_locks look_up in_order without with_owner call_of all_summoned arrival fault_of_point fault_of effect_of_point effect_of going_in_code at_back enabled_among serial_from silent_step state_of levels_from down_from regions_after walk unlimited turn enabled
+unfolding children acts each target function init first_part second_part third_part outside_acts clause_outside statements after_all inside_acts mention unlisted_in loops_in find still_in_scope after stands_in stands_among child_count names is_among with_each masked_badly critical_badly spoiled is_loop_inside not_listed slot_in construct_at slots_copied number_among shared_by_rule sharing_at copies_around statement_of from_place told_by_all with_parameters last_named first_named last_of_slot with_declarators clauses_among statements_among expression_among schedule_among listed_among with_listed with_slots combining_all trees_in flat_declarations function_among variables_among items_from_next silent printed_text text_behind_percent text_behind_backslash value values all_values descends_within last_where dealt_count critical_locks look_up in_order without with_owner call_of with_invitations arrival fault_of_point fault_of effect_of_point effect_of go_of_code at_back enabled_among serial_from silent_step state_of levels_from down_from regions_after walk unlimited turn enabled
 two = record { told = refl; ends = refl; long = refl }
 
 -- int main(void) {
@@ -136,7 +136,7 @@ none : Runs none_run (cause.Trapped 5) 5 (
     line 0 0 (call.ThreadBegin 1 (word 1))
     ∷ line 2 0 (call.ImplicitTask 1 (word 1) (word 1) 1 1 1)
     ∷ [])
-unfolding children acts each target function init first_part second_part third_part outside_acts clause_outside statements after_all inside_acts mention unlisted_in loops_in find still_in_scope after stands_in stands_among child_count names is_among with_each masked_badly critical_badly spoiled is_loop_inside not_listed slot_in construct_at slots_copied number_among shared_by_rule sharing_at copies_around statement_of from_place told_by_all with_parameters last_named first_named last_of_slot with_declarators clauses_among statements_among expression_among schedule_among listed_among with_listed with_slots combining_all trees_in flat_declarations function_among variables_among items_from_next silent printed_text text_behind_percent text_behind_backslash value values all_values descends_within last_where dealt_count critical_locks look_up in_order without with_owner call_of all_summoned arrival fault_of_point fault_of effect_of_point effect_of going_in_code at_back enabled_among serial_from silent_step state_of levels_from down_from regions_after walk unlimited turn enabled
+unfolding children acts each target function init first_part second_part third_part outside_acts clause_outside statements after_all inside_acts mention unlisted_in loops_in find still_in_scope after stands_in stands_among child_count names is_among with_each masked_badly critical_badly spoiled is_loop_inside not_listed slot_in construct_at slots_copied number_among shared_by_rule sharing_at copies_around statement_of from_place told_by_all with_parameters last_named first_named last_of_slot with_declarators clauses_among statements_among expression_among schedule_among listed_among with_listed with_slots combining_all trees_in flat_declarations function_among variables_among items_from_next silent printed_text text_behind_percent text_behind_backslash value values all_values descends_within last_where dealt_count critical_locks look_up in_order without with_owner call_of with_invitations arrival fault_of_point fault_of effect_of_point effect_of go_of_code at_back enabled_among serial_from silent_step state_of levels_from down_from regions_after walk unlimited turn enabled
 none = record { told = refl; ends = refl; long = refl }
 
 -- int main(void) {
@@ -167,7 +167,7 @@ undeferred : Runs undeferred_run cause.Done 14 (
     ∷ line 10 0 (call.ImplicitTask 2 (word 0) (word 1) 0 1 1)
     ∷ line 12 0 (call.ThreadEnd (word 1))
     ∷ [])
-unfolding children acts each target function init first_part second_part third_part outside_acts clause_outside statements after_all inside_acts mention unlisted_in loops_in find still_in_scope after stands_in stands_among child_count names is_among with_each masked_badly critical_badly spoiled is_loop_inside not_listed slot_in construct_at slots_copied number_among shared_by_rule sharing_at copies_around statement_of from_place told_by_all with_parameters last_named first_named last_of_slot with_declarators clauses_among statements_among expression_among schedule_among listed_among with_listed with_slots combining_all trees_in flat_declarations function_among variables_among items_from_next silent printed_text text_behind_percent text_behind_backslash value values all_values descends_within last_where dealt_count critical_locks look_up in_order without with_owner call_of all_summoned arrival fault_of_point fault_of effect_of_point effect_of going_in_code at_back enabled_among serial_from silent_step state_of levels_from down_from regions_after walk unlimited turn enabled
+unfolding children acts each target function init first_part second_part third_part outside_acts clause_outside statements after_all inside_acts mention unlisted_in loops_in find still_in_scope after stands_in stands_among child_count names is_among with_each masked_badly critical_badly spoiled is_loop_inside not_listed slot_in construct_at slots_copied number_among shared_by_rule sharing_at copies_around statement_of from_place told_by_all with_parameters last_named first_named last_of_slot with_declarators clauses_among statements_among expression_among schedule_among listed_among with_listed with_slots combining_all trees_in flat_declarations function_among variables_among items_from_next silent printed_text text_behind_percent text_behind_backslash value values all_values descends_within last_where dealt_count critical_locks look_up in_order without with_owner call_of with_invitations arrival fault_of_point fault_of effect_of_point effect_of go_of_code at_back enabled_among serial_from silent_step state_of levels_from down_from regions_after walk unlimited turn enabled
 undeferred = record { told = refl; ends = refl; long = refl }
 
 -- #include <omp.h>
@@ -201,7 +201,7 @@ deadlock : Runs deadlock_run cause.Deadlock 12 (
     ∷ line 8 0 (call.MutexAcquired 1 65536 327683)
     ∷ line 10 0 (call.MutexAcquire 1 0 0 65536 393219)
     ∷ [])
-unfolding children acts each target function init first_part second_part third_part outside_acts clause_outside statements after_all inside_acts mention unlisted_in loops_in find still_in_scope after stands_in stands_among child_count names is_among with_each masked_badly critical_badly spoiled is_loop_inside not_listed slot_in construct_at slots_copied number_among shared_by_rule sharing_at copies_around statement_of from_place told_by_all with_parameters last_named first_named last_of_slot with_declarators clauses_among statements_among expression_among schedule_among listed_among with_listed with_slots combining_all trees_in flat_declarations function_among variables_among items_from_next silent printed_text text_behind_percent text_behind_backslash value values all_values descends_within last_where dealt_count critical_locks look_up in_order without with_owner call_of all_summoned arrival fault_of_point fault_of effect_of_point effect_of going_in_code at_back enabled_among serial_from silent_step state_of levels_from down_from regions_after walk unlimited turn enabled
+unfolding children acts each target function init first_part second_part third_part outside_acts clause_outside statements after_all inside_acts mention unlisted_in loops_in find still_in_scope after stands_in stands_among child_count names is_among with_each masked_badly critical_badly spoiled is_loop_inside not_listed slot_in construct_at slots_copied number_among shared_by_rule sharing_at copies_around statement_of from_place told_by_all with_parameters last_named first_named last_of_slot with_declarators clauses_among statements_among expression_among schedule_among listed_among with_listed with_slots combining_all trees_in flat_declarations function_among variables_among items_from_next silent printed_text text_behind_percent text_behind_backslash value values all_values descends_within last_where dealt_count critical_locks look_up in_order without with_owner call_of with_invitations arrival fault_of_point fault_of effect_of_point effect_of go_of_code at_back enabled_among serial_from silent_step state_of levels_from down_from regions_after walk unlimited turn enabled
 deadlock = record { told = refl; ends = refl; long = refl }
 
 -- omp_lock_t l;
@@ -241,7 +241,7 @@ failing : Runs failing_run cause.Done 16 (
     ∷ line 12 0 (call.ImplicitTask 2 (word 0) (word 1) 0 1 1)
     ∷ line 14 0 (call.ThreadEnd (word 1))
     ∷ [])
-unfolding children acts each target function init first_part second_part third_part outside_acts clause_outside statements after_all inside_acts mention unlisted_in loops_in find still_in_scope after stands_in stands_among child_count names is_among with_each masked_badly critical_badly spoiled is_loop_inside not_listed slot_in construct_at slots_copied number_among shared_by_rule sharing_at copies_around statement_of from_place told_by_all with_parameters last_named first_named last_of_slot with_declarators clauses_among statements_among expression_among schedule_among listed_among with_listed with_slots combining_all trees_in flat_declarations function_among variables_among items_from_next silent printed_text text_behind_percent text_behind_backslash value values all_values descends_within last_where dealt_count critical_locks look_up in_order without with_owner call_of all_summoned arrival fault_of_point fault_of effect_of_point effect_of going_in_code at_back enabled_among serial_from silent_step state_of levels_from down_from regions_after walk unlimited turn enabled
+unfolding children acts each target function init first_part second_part third_part outside_acts clause_outside statements after_all inside_acts mention unlisted_in loops_in find still_in_scope after stands_in stands_among child_count names is_among with_each masked_badly critical_badly spoiled is_loop_inside not_listed slot_in construct_at slots_copied number_among shared_by_rule sharing_at copies_around statement_of from_place told_by_all with_parameters last_named first_named last_of_slot with_declarators clauses_among statements_among expression_among schedule_among listed_among with_listed with_slots combining_all trees_in flat_declarations function_among variables_among items_from_next silent printed_text text_behind_percent text_behind_backslash value values all_values descends_within last_where dealt_count critical_locks look_up in_order without with_owner call_of with_invitations arrival fault_of_point fault_of effect_of_point effect_of go_of_code at_back enabled_among serial_from silent_step state_of levels_from down_from regions_after walk unlimited turn enabled
 failing = record { told = refl; ends = refl; long = refl }
 
 -- int main(void) {
@@ -280,5 +280,5 @@ dispatched : Runs dispatched_run cause.Done 16 (
     ∷ line 12 0 (call.ImplicitTask 2 (word 0) (word 1) 0 1 1)
     ∷ line 14 0 (call.ThreadEnd (word 1))
     ∷ [])
-unfolding children acts each target function init first_part second_part third_part outside_acts clause_outside statements after_all inside_acts mention unlisted_in loops_in find still_in_scope after stands_in stands_among child_count names is_among with_each masked_badly critical_badly spoiled is_loop_inside not_listed slot_in construct_at slots_copied number_among shared_by_rule sharing_at copies_around statement_of from_place told_by_all with_parameters last_named first_named last_of_slot with_declarators clauses_among statements_among expression_among schedule_among listed_among with_listed with_slots combining_all trees_in flat_declarations function_among variables_among items_from_next silent printed_text text_behind_percent text_behind_backslash value values all_values descends_within last_where dealt_count critical_locks look_up in_order without with_owner call_of all_summoned arrival fault_of_point fault_of effect_of_point effect_of going_in_code at_back enabled_among serial_from silent_step state_of levels_from down_from regions_after walk unlimited turn enabled
+unfolding children acts each target function init first_part second_part third_part outside_acts clause_outside statements after_all inside_acts mention unlisted_in loops_in find still_in_scope after stands_in stands_among child_count names is_among with_each masked_badly critical_badly spoiled is_loop_inside not_listed slot_in construct_at slots_copied number_among shared_by_rule sharing_at copies_around statement_of from_place told_by_all with_parameters last_named first_named last_of_slot with_declarators clauses_among statements_among expression_among schedule_among listed_among with_listed with_slots combining_all trees_in flat_declarations function_among variables_among items_from_next silent printed_text text_behind_percent text_behind_backslash value values all_values descends_within last_where dealt_count critical_locks look_up in_order without with_owner call_of with_invitations arrival fault_of_point fault_of effect_of_point effect_of go_of_code at_back enabled_among serial_from silent_step state_of levels_from down_from regions_after walk unlimited turn enabled
 dispatched = record { told = refl; ends = refl; long = refl }

@@ -22,8 +22,8 @@ use Rattle.omp_model.specs.declared.event.Event.TheVariants.{Dispatch, InitialTa
 use Rattle.omp_model.specs.State.{Thread, World, fresh_head, fresh_team, pooled_at, region_at, task_at, thread_at}
 use Rattle.omp_model.specs.Members.{current, current_index, current_region, is_outermost, member_index}
 use Rattle.omp_model.specs.Gates.{is_barrier}
-use Rattle.omp_model.specs.Changes.{summoned}
-use Rattle.omp_model.specs.Going.{barrier_met, kind_of_task, meeting_at, team_size}
+use Rattle.omp_model.specs.Changes.{with_invitation}
+use Rattle.omp_model.specs.EventEffects.{barrier_met, kind_of_task, meeting_at, team_size}
 
 -- an event of the code of the thread's current task, or one beside all code
 abbrev pub is_of_code : Event → Bool
@@ -181,7 +181,7 @@ is_summoned W t r u = if is_outermost W r then nat_lt u (region_at W r).head.siz
 
 abbrev pub thread_back : World → ℕ → Event → ℕ → Thread
 thread_back W t ThreadEnd u = if u == t then record (thread_at W u) { stage = thread_stage.Ended } else thread_at W u
-thread_back W t (ParallelBegin r requested codeptr) u = if is_summoned W t r u then summoned r (thread_at W u) else thread_at W u
+thread_back W t (ParallelBegin r requested codeptr) u = if is_summoned W t r u then with_invitation r (thread_at W u) else thread_at W u
 thread_back W t (TaskCreate task true codeptr) u = if u == t then record (thread_at W u) { undeferred = task } else thread_at W u
 thread_back W t other u = thread_at W u
 

@@ -4,7 +4,7 @@ use Rattle.std.proofs.lemmas.Bool.{true≢false, and_parts, leb-false}
 use Rattle.std.proofs.Common.{sym, ap, ◌∙◌, subst, add-one, lt-ltb, arith}
 use Rattle.omp_model.specs.declared.limits.TheConstants.{STEPS, STEPS_OF_A_TURN, TURNS, TURN_LIMIT}
 use Rattle.omp_model.specs.declared.event.Arrival.{Arrival}
-use Rattle.omp_model.specs.declared.event.Arrival.TheVariants.{Comes, Meets, Steps, Waits}
+use Rattle.omp_model.specs.declared.event.Arrival.TheVariants.{CodeEvent, RuntimeEvent, Steps, Waits}
 use Rattle.omp_model.specs.declared.event.Callback.{Callback}
 use Rattle.omp_model.specs.declared.event.Event.{Event}
 use Rattle.omp_model.specs.declared.event.Outcome.{Outcome}
@@ -14,10 +14,10 @@ use Rattle.omp_model.specs.declared.event.Halt.{Halt}
 use Rattle.omp_model.specs.declared.event.Halt.TheVariants.{Limit}
 use Rattle.omp_model.specs.State.{Run, World, State, pending_at}
 use Rattle.omp_model.specs.Gates.{arrival}
-use Rattle.omp_model.specs.Changes.{gone_past}
+use Rattle.omp_model.specs.Changes.{with_masked_skipped}
 use Rattle.omp_model.specs.Silent.{Silence, Goes, Stops, silent_step}
-use Rattle.omp_model.specs.Going.{Going, Nothing, Happens, Halts, fault_of, effect_of, going_beside, going_in_code, unless}
-use Rattle.omp_model.specs.Turn.{Walk, Turn, after_steps, after_walk, called, counted, enabled, goes_on, going_past, halted, has_outcome, stepped, turn, unlimited, walk, walk_by, walk_on, walked, with_going, without_event}
+use Rattle.omp_model.specs.EventEffects.{Going, Nothing, Happens, Halts, fault_of, effect_of, go_of_runtime, go_of_code, unless}
+use Rattle.omp_model.specs.Turn.{Walk, Turn, after_steps, after_walk, called, counted, enabled, goes_on, state_past_masked, halted, has_outcome, stepped, turn, unlimited, walk, walk_by, walk_on, walked, with_going, without_event}
 use Rattle.omp_model.proofs.Coming.{IsGo, comes_goes}
 use Rattle.omp_model.proofs.GonePast.{comes-past}
 
@@ -35,8 +35,8 @@ unless-is None which after = tt
 has-at-rest : (run : Run) (S : State) (t : ℕ) (next : Arrival) → arrival S.world t ≡ next → (next ≡ Steps → ⊥) → has_outcome (after_steps run S 0 t next).outcome ≡ goes_on next
 has-at-rest run S t Waits is other = refl
 has-at-rest run S t Steps is other = absurd (other refl)
-has-at-rest run S t Comes is other = has-going (going_past S t) 0 t (going_in_code run (gone_past S.world t) t) (comes_goes (gone_past S.world t) t run (comes-past S.world t is))
-has-at-rest run S t (Meets event) is other = has-going S 0 t (going_beside S.world t event) (unless-is (fault_of S.world t event) event (effect_of S.world t event))
+has-at-rest run S t CodeEvent is other = has-going (state_past_masked S t) 0 t (go_of_code run (with_masked_skipped S.world t) t) (comes_goes (with_masked_skipped S.world t) t run (comes-past S.world t is))
+has-at-rest run S t (RuntimeEvent event) is other = has-going S 0 t (go_of_runtime S.world t event) (unless-is (fault_of S.world t event) event (effect_of S.world t event))
 
 -- behind a silent step there is always an outcome
 quiet-behind : (S : State) (made : ℕ) → has_outcome (without_event S (suc made)).outcome ≡ true
@@ -50,8 +50,8 @@ going-behind S made t (Halts halt) = refl
 has-behind : (run : Run) (S : State) (made t : ℕ) (next : Arrival) → has_outcome (after_steps run S (suc made) t next).outcome ≡ true
 has-behind run S made t Waits = quiet-behind S made
 has-behind run S made t Steps = quiet-behind S made
-has-behind run S made t Comes = going-behind (going_past S t) made t (going_in_code run (gone_past S.world t) t)
-has-behind run S made t (Meets event) = going-behind S made t (going_beside S.world t event)
+has-behind run S made t CodeEvent = going-behind (state_past_masked S t) made t (go_of_code run (with_masked_skipped S.world t) t)
+has-behind run S made t (RuntimeEvent event) = going-behind S made t (go_of_runtime S.world t event)
 
 abbrev ends_well : Run → ℕ → Walk → Bool
 ends_well run t it = has_outcome (after_walk run it t it.stop).outcome
@@ -61,15 +61,15 @@ has-by run S made t (Goes after) more has = has after
 has-by run S made t (Stops halt) more has = refl
 
 has-step : (run : Run) (S : State) (made t : ℕ) (over : Bool) (more : World → Walk) → ((W : World) → ends_well run t (more W) ≡ true) →
-    ends_well run t (if over then walked S made (Some (Limit STEPS)) else walk_by (going_past S t) made (silent_step run S.world t) more) ≡ true
+    ends_well run t (if over then walked S made (Some (Limit STEPS)) else walk_by (state_past_masked S t) made (silent_step run S.world t) more) ≡ true
 has-step run S made t true more has = refl
-has-step run S made t false more has = has-by run (going_past S t) made t (silent_step run S.world t) more has
+has-step run S made t false more has = has-by run (state_past_masked S t) made t (silent_step run S.world t) more has
 
 has-on : (run : Run) (S : State) (made t : ℕ) (next : Arrival) (more : World → Walk) → ((W : World) → ends_well run t (more W) ≡ true) → ends_well run t (walk_on run S t (suc made) next more) ≡ true
 has-on run S made t Steps more has = has-step run S (suc made) t (nat_le run.steps S.steps) more has
 has-on run S made t Waits more has = has-behind run S made t (arrival S.world t)
-has-on run S made t Comes more has = has-behind run S made t (arrival S.world t)
-has-on run S made t (Meets event) more has = has-behind run S made t (arrival S.world t)
+has-on run S made t CodeEvent more has = has-behind run S made t (arrival S.world t)
+has-on run S made t (RuntimeEvent event) more has = has-behind run S made t (arrival S.world t)
 
 has-walk : (run : Run) (left made : ℕ) (S : State) (t : ℕ) → ends_well run t (walk run left (suc made) S t) ≡ true
 unfolding walk
@@ -81,8 +81,8 @@ has-walk run (suc left) made S t =
 has-first : (run : Run) (S : State) (t : ℕ) (next : Arrival) (more : World → Walk) → arrival S.world t ≡ next → ((W : World) → ends_well run t (more W) ≡ true) → ends_well run t (walk_on run S t 0 next more) ≡ goes_on next
 has-first run S t Steps more is has = has-step run S 0 t (nat_le run.steps S.steps) more has
 has-first run S t Waits more is has = subst (λ next. has_outcome (after_steps run S 0 t next).outcome ≡ goes_on Waits) (sym is) (has-at-rest run S t Waits is (λ same. cc))
-has-first run S t Comes more is has = subst (λ next. has_outcome (after_steps run S 0 t next).outcome ≡ goes_on Comes) (sym is) (has-at-rest run S t Comes is (λ same. cc))
-has-first run S t (Meets event) more is has = subst (λ next. has_outcome (after_steps run S 0 t next).outcome ≡ goes_on (Meets event)) (sym is) (has-at-rest run S t (Meets event) is (λ same. cc))
+has-first run S t CodeEvent more is has = subst (λ next. has_outcome (after_steps run S 0 t next).outcome ≡ goes_on CodeEvent) (sym is) (has-at-rest run S t CodeEvent is (λ same. cc))
+has-first run S t (RuntimeEvent event) more is has = subst (λ next. has_outcome (after_steps run S 0 t next).outcome ≡ goes_on (RuntimeEvent event)) (sym is) (has-at-rest run S t (RuntimeEvent event) is (λ same. cc))
 
 has-any : (run : Run) (left : ℕ) (S : State) (t : ℕ) → ends_well run t (walk run (suc left) 0 S t) ≡ goes_on (arrival S.world t)
 unfolding walk
@@ -105,20 +105,20 @@ pub record Keeps (S after : State) : Type 0 where
   pub pending : after.pending ≡ S.pending
 
 -- a walk that stops, or goes on as it may, keeps what it may
-by-keeps : (S : State) (t made : ℕ) (silence : Silence) (more : World → Walk) → ((W : World) → Keeps S (more W).state) → Keeps S (walk_by (going_past S t) made silence more).state
+by-keeps : (S : State) (t made : ℕ) (silence : Silence) (more : World → Walk) → ((W : World) → Keeps S (more W).state) → Keeps S (walk_by (state_past_masked S t) made silence more).state
 by-keeps S t made (Goes after) more keeps = keeps after
 by-keeps S t made (Stops halt) more keeps = record { turns = refl; halt = refl; pending = refl }
 
 step-keeps : (run : Run) (S : State) (t made : ℕ) (over : Bool) (more : World → Walk) → ((W : World) → Keeps S (more W).state) →
-    Keeps S (if over then walked S made (Some (Limit STEPS)) else walk_by (going_past S t) made (silent_step run S.world t) more).state
+    Keeps S (if over then walked S made (Some (Limit STEPS)) else walk_by (state_past_masked S t) made (silent_step run S.world t) more).state
 step-keeps run S t made true more keeps = record { turns = refl; halt = refl; pending = refl }
 step-keeps run S t made false more keeps = by-keeps S t made (silent_step run S.world t) more keeps
 
 on-keeps : (run : Run) (S : State) (t made : ℕ) (next : Arrival) (more : World → Walk) → ((W : World) → Keeps S (more W).state) → Keeps S (walk_on run S t made next more).state
 on-keeps run S t made Steps more keeps = step-keeps run S t made (nat_le run.steps S.steps) more keeps
 on-keeps run S t made Waits more keeps = record { turns = refl; halt = refl; pending = refl }
-on-keeps run S t made Comes more keeps = record { turns = refl; halt = refl; pending = refl }
-on-keeps run S t made (Meets event) more keeps = record { turns = refl; halt = refl; pending = refl }
+on-keeps run S t made CodeEvent more keeps = record { turns = refl; halt = refl; pending = refl }
+on-keeps run S t made (RuntimeEvent event) more keeps = record { turns = refl; halt = refl; pending = refl }
 
 -- silent steps keep the count of turns, the halt and the pending events
 pub walk-keeps : (run : Run) (left made : ℕ) (S : State) (t : ℕ) → Keeps S (walk run left made S t).state
@@ -147,8 +147,8 @@ leaves-going S made t (Halts halt) = (refl, refl, refl)
 leaves-after-steps : (run : Run) (S : State) (made t : ℕ) (next : Arrival) → Leaves S t (after_steps run S made t next).state (after_steps run S made t next).outcome
 leaves-after-steps run S made t Waits = leaves-without S made t
 leaves-after-steps run S made t Steps = leaves-without S made t
-leaves-after-steps run S made t Comes = leaves-going (going_past S t) made t (going_in_code run (gone_past S.world t) t)
-leaves-after-steps run S made t (Meets event) = leaves-going S made t (going_beside S.world t event)
+leaves-after-steps run S made t CodeEvent = leaves-going (state_past_masked S t) made t (go_of_code run (with_masked_skipped S.world t) t)
+leaves-after-steps run S made t (RuntimeEvent event) = leaves-going S made t (go_of_runtime S.world t event)
 
 -- a walk's state, from which the turn goes on or at which it stops
 leaves-after-walk : (run : Run) (w : Walk) (t : ℕ) (h : Option Halt) → Leaves w.state t (after_walk run w t h).state (after_walk run w t h).outcome

@@ -1,5 +1,5 @@
--- The call that a tool hears of an event: OpenMP 5.2, 19.5.2.
-use Rattle.std.specs.Prelude.{ℕ, ◌==◌, if◌then◌else◌}
+-- The call that a tool hears of an event: OpenMP 5.2, 19.5.2; and that what it names was made.
+use Rattle.std.specs.Prelude.{ℕ, ◌≡◌, ◌==◌, ◌-◌, ◌≤◌, true, if◌then◌else◌}
 use Rattle.c_model.specs.declared.point.MutexKind.{MutexKind}
 use Rattle.c_model.specs.declared.point.MutexKind.TheVariants as mutex
 use Rattle.c_model.specs.declared.point.SyncKind.{SyncKind}
@@ -20,6 +20,8 @@ use Rattle.omp_codes.specs.declared.work_kinds.TheConstants as work_kind
 use Rattle.ompt_calls.specs.declared.call.Call.{Call}
 use Rattle.ompt_calls.specs.declared.call.Call.TheVariants as call
 use Rattle.ompt_calls.specs.declared.call.Word.{Word}
+use Rattle.ompt_calls.specs.declared.snapshot.Target.{Target}
+use Rattle.ompt_calls.specs.declared.snapshot.Target.TheVariants as target
 use Rattle.omp_model.specs.declared.limits.TheConstants.{INITIAL_TASK, IMPLICIT_REGION}
 use Rattle.omp_model.specs.declared.event.Endpoint.{Endpoint}
 use Rattle.omp_model.specs.declared.event.Endpoint.TheVariants as endpoint
@@ -29,8 +31,8 @@ use Rattle.omp_model.specs.declared.event.Share.{Share}
 use Rattle.omp_model.specs.declared.event.Share.TheVariants.{Chunk, Section}
 use Rattle.omp_model.specs.State.{World, pooled_at, region_at}
 use Rattle.omp_model.specs.Members.{current, current_region, member_index}
-use Rattle.omp_model.specs.Going.{sync_number}
-use Rattle.omp_model.specs.Words.{null_word, region_word, task_word, thread_word}
+use Rattle.omp_model.specs.EventEffects.{sync_number}
+use Rattle.omp_model.specs.Words.{is_made, null_word, region_word, task_word, thread_word}
 use Rattle.omp_model.specs.Frames.{current_frame}
 use Rattle.omp_model.specs.Snapshots.{task_flags}
 
@@ -144,3 +146,45 @@ callback_of (MutexAcquired which wait_id codeptr) = callback.MUTEX_ACQUIRED
 callback_of (MutexReleased which wait_id codeptr) = callback.MUTEX_RELEASED
 callback_of (LockInit wait_id codeptr) = callback.LOCK_INIT
 callback_of (LockDestroy wait_id codeptr) = callback.LOCK_DESTROY
+
+-- What a call names was made.
+
+-- the thread, region or task was made
+abbrev pub IsMade : World → Target → Type 0
+IsMade W place = is_made W place ≡ true
+
+-- the word of a thread that was made
+pub record IsThreadWord (W : World) (thread : Word) : Type 0 where
+  pub some : 1 ≤ thread.identity
+  pub made : IsMade W (target.Thread (thread.identity - 1))
+
+-- the word of a region, and of a task, that was made, or of none
+abbrev pub IsRegionWord : World → Word → Type 0
+IsRegionWord W region = 1 ≤ region.identity → IsMade W (target.Parallel region.identity)
+
+abbrev pub IsTaskWord : World → Word → Type 0
+IsTaskWord W task = 1 ≤ task.identity → IsMade W (target.Task task.identity)
+
+pub record AreWords (W : World) (of_region of_task : Word) : Type 0 where
+  pub region : IsRegionWord W of_region
+  pub task : IsTaskWord W of_task
+
+pub record AreTaskWords (W : World) (one other : Word) : Type 0 where
+  pub first : IsTaskWord W one
+  pub second : IsTaskWord W other
+
+-- the words of a call
+abbrev pub IsMadeCall : World → Call → Type 0
+IsMadeCall W (call.ThreadBegin kind thread) = IsThreadWord W thread
+IsMadeCall W (call.ThreadEnd thread) = IsThreadWord W thread
+IsMadeCall W (call.ParallelBegin task frame region requested flags codeptr) = AreWords W region task
+IsMadeCall W (call.ParallelEnd region task flags codeptr) = AreWords W region task
+IsMadeCall W (call.TaskCreate task frame fresh flags has_dependences codeptr) = AreTaskWords W task fresh
+IsMadeCall W (call.TaskSchedule prior status next) = AreTaskWords W prior next
+IsMadeCall W (call.ImplicitTask endpoint region task actual index flags) = AreWords W region task
+IsMadeCall W (call.SyncRegionWait kind endpoint region task codeptr) = AreWords W region task
+IsMadeCall W (call.SyncRegion kind endpoint region task codeptr) = AreWords W region task
+IsMadeCall W (call.Work kind endpoint region task count codeptr) = AreWords W region task
+IsMadeCall W (call.Masked endpoint region task codeptr) = AreWords W region task
+IsMadeCall W (call.Dispatch region task kind start iterations) = AreWords W region task
+IsMadeCall W other = Unit {0}

@@ -11,9 +11,9 @@ use Rattle.omp_model.specs.declared.event.Callback.{Callback}
 use Rattle.omp_model.specs.declared.event.Event.{Event}
 use Rattle.omp_model.specs.declared.event.Event.TheVariants.{InitialTaskBegin, InitialTaskEnd, MemberBegin, MemberEnd, TaskBegin, TaskCreate, TaskEnd}
 use Rattle.omp_model.specs.State.{State, World, pending_at, pooled_at, region_at, task_at, thread_at}
-use Rattle.omp_model.specs.Changes.{finished, popped, readied, started, taken_up, task_made}
-use Rattle.omp_model.specs.Going.{member_code}
-use Rattle.omp_model.specs.Made.{IsTask}
+use Rattle.omp_model.specs.Changes.{with_finished_task, without_current_task, with_ready_task, with_started_task, taken_up, task_made}
+use Rattle.omp_model.specs.EventEffects.{member_code}
+use Rattle.omp_model.specs.MadeWorld.{IsTask}
 
 -- a task that has started, whether or not it has finished
 abbrev pub has_started : Condition → Bool
@@ -86,13 +86,13 @@ pub record IsOrderly (S : State) : Type 0 where
 
 -- a task becomes ready, starts and finishes, and nothing keeps it from that
 abbrev pub BecomesReady : World → ℕ → Type 0
-BecomesReady W k = readied W k ≡ record W { pool = with_ready W.pool k }
+BecomesReady W k = with_ready_task W k ≡ record W { pool = with_ready W.pool k }
 
 abbrev pub Starts : World → ℕ → Type 0
-Starts W k = started W k ≡ record W { pool = with_started W.pool k }
+Starts W k = with_started_task W k ≡ record W { pool = with_started W.pool k }
 
 abbrev pub Finishes : World → ℕ → Type 0
-Finishes W k = finished W k ≡ record W { pool = with_finished W.pool k }
+Finishes W k = with_finished_task W k ≡ record W { pool = with_finished W.pool k }
 
 -- the world in which a member's task starts: the task was made
 abbrev pub member_made : World → ℕ → World
@@ -102,9 +102,9 @@ member_made W r =
 -- what starts or finishes at the event's Go does so; what becomes ready or finishes at the Back does so
 abbrev pub GoActs : World → ℕ → Event → Type 0
 GoActs W t InitialTaskBegin = Starts (taken_up W t INITIAL_TASK) INITIAL_TASK
-GoActs W t InitialTaskEnd = Finishes (popped W t) INITIAL_TASK
+GoActs W t InitialTaskEnd = Finishes (without_current_task W t) INITIAL_TASK
 GoActs W t (MemberBegin r k) = Starts (member_made W r) k
-GoActs W t (MemberEnd r k) = Finishes (popped W t) k
+GoActs W t (MemberEnd r k) = Finishes (without_current_task W t) k
 GoActs W t (TaskBegin prior task) = Starts (taken_up W t task) task
 GoActs W t other = Unit {0}
 

@@ -23,8 +23,7 @@ use Rattle.omp_model.specs.declared.limits.TheConstants.{IMPLICIT_REGION, INITIA
 use Rattle.omp_model.specs.declared.parts.ThreadStage.{ThreadStage}
 use Rattle.omp_model.specs.declared.parts.ThreadStage.TheVariants as thread_stage
 use Rattle.omp_model.specs.declared.event.Arrival.{Arrival}
-use Rattle.omp_model.specs.declared.event.Arrival.TheVariants.{Comes, Meets, Steps, Waits}
-use Rattle.omp_model.specs.declared.event.Event.{Event}
+use Rattle.omp_model.specs.declared.event.Arrival.TheVariants.{CodeEvent, RuntimeEvent, Steps, Waits}
 use Rattle.omp_model.specs.declared.event.Event.TheVariants.{Dispatch, InitialTaskBegin, InitialTaskEnd, MemberBegin, MemberEnd, TaskBegin, TaskEnd, ThreadBegin, ThreadEnd}
 use Rattle.omp_model.specs.declared.event.Share.{Share}
 use Rattle.omp_model.specs.State.{Thread, World, pooled_at, region_at, task_at, thread_at}
@@ -32,7 +31,7 @@ use Rattle.omp_model.specs.Members.{code_of, current, current_index, current_reg
 
 -- an event of the code, where nothing keeps the thread from it
 abbrev pub comes_if : Bool → Arrival
-comes_if may = if may then Comes else Waits
+comes_if may = if may then CodeEvent else Waits
 
 -- a thread that wasn't made, or has ended
 abbrev pub is_out : ThreadStage → Bool
@@ -81,11 +80,11 @@ next_task W t = newest_allowed W.pool.tasks W.pool.ready (current_region W t) (h
 
 abbrev pub starts_if : World → ℕ → Option ℕ → Arrival
 starts_if W t None = Waits
-starts_if W t (Some task) = Meets (TaskBegin (current W t) task)
+starts_if W t (Some task) = RuntimeEvent (TaskBegin (current W t) task)
 
 -- a thread whose wait may end ends it, and otherwise starts a task, if it may start one
 abbrev pub waits_until : World → ℕ → Bool → Arrival
-waits_until W t may = if may then Comes else starts_if W t (next_task W t)
+waits_until W t may = if may then CodeEvent else starts_if W t (next_task W t)
 
 -- a wait at a barrier may end as the team has it, and a taskwait where no child of the task is unfinished
 abbrev pub may_end : World → ℕ → SyncKind → Bool
@@ -95,7 +94,7 @@ may_end W t other =
 
 abbrev pub arrival_at_sync : World → ℕ → SyncKind → SyncStage → Arrival
 arrival_at_sync W t kind stage.WaitEnd = waits_until W t (may_end W t kind)
-arrival_at_sync W t kind other = Comes
+arrival_at_sync W t kind other = CodeEvent
 
 -- a lock that some task owns
 abbrev pub is_owned_by : Option ℕ → Bool
@@ -117,36 +116,36 @@ all_left W r = list_all (λ (flag : Bool). flag) (take (region_at W r).head.size
 abbrev pub arrival_behind_main : World → ℕ → Arrival
 arrival_behind_main W t =
     if has_no_tasks W (current_region W t)
-    then (if workers_over W then Meets InitialTaskEnd else Waits)
+    then (if workers_over W then RuntimeEvent InitialTaskEnd else Waits)
     else starts_if W t (next_task W t)
 
 -- the end of a task's code
 abbrev pub arrival_at_end : World → ℕ → ℕ → TaskKind → Arrival
 arrival_at_end W t k kind.Initial = arrival_behind_main W t
-arrival_at_end W t k kind.Implicit = Meets (MemberEnd (region_of W k) k)
-arrival_at_end W t k kind.Explicit = Meets (TaskEnd k)
-arrival_at_end W t k kind.Undeferred = Meets (TaskEnd k)
+arrival_at_end W t k kind.Implicit = RuntimeEvent (MemberEnd (region_of W k) k)
+arrival_at_end W t k kind.Explicit = RuntimeEvent (TaskEnd k)
+arrival_at_end W t k kind.Undeferred = RuntimeEvent (TaskEnd k)
 
 -- a thread in a task, by what comes next in the task's code
 abbrev pub arrival_in : World → ℕ → ℕ → Upcoming → Arrival
 arrival_in W t k upcoming.Step = Steps
-arrival_in W t k upcoming.Event = Comes
+arrival_in W t k upcoming.Event = CodeEvent
 arrival_in W t k upcoming.End = arrival_at_end W t k (pooled_at W k).kind
 arrival_in W t k upcoming.RegionEnd = comes_if (all_left W (task_at W k).forked)
 arrival_in W t k (upcoming.Sync kind stage) = arrival_at_sync W t kind stage
 arrival_in W t k (upcoming.Acquire wait_id) = comes_if (not (is_owned W wait_id))
-arrival_in W t k (upcoming.Test wait_id) = if is_owned W wait_id then Steps else Comes
+arrival_in W t k (upcoming.Test wait_id) = if is_owned W wait_id then Steps else CodeEvent
 
 -- thread 0 without a task: the initial task stands next, or has been
 abbrev pub arrival_around : Condition → Arrival
-arrival_around condition.Made = Meets InitialTaskBegin
+arrival_around condition.Made = RuntimeEvent InitialTaskBegin
 arrival_around condition.Ready = Waits
 arrival_around condition.Started = Waits
-arrival_around condition.Finished = Meets ThreadEnd
+arrival_around condition.Finished = RuntimeEvent ThreadEnd
 
 -- a worker without a task ends where main has returned and no explicit task of the initial task's region is unfinished
 abbrev pub arrival_of_worker : World → Arrival
-arrival_of_worker W = if main_returned W && has_no_tasks W IMPLICIT_REGION then Meets ThreadEnd else Waits
+arrival_of_worker W = if main_returned W && has_no_tasks W IMPLICIT_REGION then RuntimeEvent ThreadEnd else Waits
 
 abbrev pub arrival_without_task : World → ℕ → Arrival
 arrival_without_task W t = if t == 0 then arrival_around (pooled_at W INITIAL_TASK).condition else arrival_of_worker W
@@ -156,22 +155,22 @@ arrival_of_task W t k = if k == 0 then arrival_without_task W t else arrival_in 
 
 -- a share of work that was taken is told before it is executed
 abbrev pub arrival_with_share : World → ℕ → Option Share → Arrival
-arrival_with_share W t (Some share) = Meets (Dispatch share)
+arrival_with_share W t (Some share) = RuntimeEvent (Dispatch share)
 arrival_with_share W t None = arrival_of_task W t (current W t)
 
 -- an undeferred task starts at once
 abbrev pub arrival_with_undeferred : World → ℕ → ℕ → Arrival
 arrival_with_undeferred W t task =
-    if task == 0 then arrival_with_share W t (thread_at W t).taken else Meets (TaskBegin (current W t) task)
+    if task == 0 then arrival_with_share W t (thread_at W t).taken else RuntimeEvent (TaskBegin (current W t) task)
 
 -- a thread that is to join a region joins it
 abbrev pub arrival_invited : World → ℕ → ℕ → Arrival
 arrival_invited W t r =
-    if r == 0 then arrival_with_undeferred W t (thread_at W t).undeferred else Meets (MemberBegin r (length W.tasks))
+    if r == 0 then arrival_with_undeferred W t (thread_at W t).undeferred else RuntimeEvent (MemberBegin r (length W.tasks))
 
 abbrev pub arrival_at : World → ℕ → ThreadStage → Arrival
 arrival_at W t thread_stage.Unmade = Waits
-arrival_at W t thread_stage.Made = Meets ThreadBegin
+arrival_at W t thread_stage.Made = RuntimeEvent ThreadBegin
 arrival_at W t thread_stage.Begun = arrival_invited W t (thread_at W t).invited
 arrival_at W t thread_stage.Ended = Waits
 

@@ -3,7 +3,7 @@ pub mod Members
 pub mod Gates
 pub mod Changes
 pub mod Silent
-pub mod Going
+pub mod EventEffects
 pub mod Returning
 pub mod Words
 pub mod Frames
@@ -17,7 +17,7 @@ pub mod Serial
 pub mod Storing
 pub mod Records
 pub mod Running
-pub mod Made
+pub mod MadeWorld
 pub mod Named
 pub mod Conditions
 pub mod Empty

@@ -8,7 +8,7 @@ use Rattle.c_model.specs.declared.question.Ask.{Ask}
 use Rattle.c_model.specs.declared.question.Ask.TheVariants as ask
 use Rattle.c_model.specs.Asked.{count_asked, sections_asked}
 use Rattle.c_model.specs.Clauses.{statements_among}
-use Rattle.c_model.specs.Going.{after_answer}
+use Rattle.c_model.specs.AfterEvents.{after_answer}
 use Rattle.c_model.specs.Parts.{parts}
 use Rattle.c_model.specs.Program.{place_of}
 use Rattle.c_model.specs.Step.{settled_task, silent}
@@ -22,7 +22,7 @@ use Rattle.omp_model.specs.declared.event.Share.TheVariants.{Chunk, Section}
 use Rattle.omp_model.specs.State.{Run, World}
 use Rattle.omp_model.specs.Members.{code_of, current, current_index, current_region, current_team, is_member, moment_of, view_of}
 use Rattle.omp_model.specs.Gates.{is_owned}
-use Rattle.omp_model.specs.Changes.{gone_to, sharing, with_team}
+use Rattle.omp_model.specs.Changes.{gone_to, with_taken_share, with_team}
 
 -- What the team deals is given where it fits the work that asks: a chunk that has an iteration and lies within the loop, and a section that the
 -- construct has. In runs of a program that breaks no rule it always fits, so nothing is counted as taken that isn't given.
@@ -80,7 +80,7 @@ share_taken construct (answer.Free free) = None
 abbrev pub answered_by : World → ℕ → Ask → Tree → Answer → World
 answered_by W t ask tree given =
     with_team
-    (sharing (gone_to W (current W t) (after_answer (view_of W t) given (moment_of W t))) t (share_taken tree given))
+    (with_taken_share (gone_to W (current W t) (after_answer (view_of W t) given (moment_of W t))) t (share_taken tree given))
     (current_region W t)
     (team_after W t ask)
 

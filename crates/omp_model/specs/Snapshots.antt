@@ -20,7 +20,7 @@ use Rattle.ompt_calls.specs.declared.snapshot.Target.{Target}
 use Rattle.ompt_calls.specs.declared.snapshot.Target.TheVariants as target
 use Rattle.omp_model.specs.declared.limits.TheConstants.{INITIAL_TASK, IMPLICIT_REGION}
 use Rattle.omp_model.specs.declared.event.Event.{Event}
-use Rattle.omp_model.specs.declared.event.Event.TheVariants.{Dispatch, InitialTaskBegin, LockDestroy, LockInit, Masked, MemberBegin, MemberEnd, MutexAcquire, MutexAcquired, MutexReleased, ParallelBegin, Sync, TaskBegin, TaskCreate, TaskEnd, Work}
+use Rattle.omp_model.specs.declared.event.Event.TheVariants.{InitialTaskEnd, MemberEnd, MutexAcquire, ParallelBegin, ParallelEnd, Sync, TaskCreate, TaskEnd, ThreadBegin, ThreadEnd}
 use Rattle.omp_model.specs.State.{World, pooled_at, region_at, task_at, thread_at}
 use Rattle.omp_model.specs.Members.{current, current_region, is_outermost, member_index, region_of}
 use Rattle.omp_model.specs.Words.{region_word, task_word, thread_word}
@@ -57,24 +57,18 @@ resumed_state W t (SyncItem tree which stage.WaitEnd ∷ items) = wait_state whi
 resumed_state W t [] = if current W t == INITIAL_TASK then thread_state.OVERHEAD else work_state W t
 resumed_state W t other = work_state W t
 
--- the `ompt_state_t` of a thread at its event; where nothing else is said, it is in the runtime
+-- the `ompt_state_t` of a thread at its event; where nothing else is said, it is at work
 unfoldable pub state_of : World → ℕ → Event → ℕ
-state_of W t InitialTaskBegin = work_state W t
-state_of W t (MemberBegin r k) = work_state W t
+state_of W t ThreadBegin = thread_state.OVERHEAD
+state_of W t ThreadEnd = thread_state.OVERHEAD
+state_of W t InitialTaskEnd = thread_state.OVERHEAD
+state_of W t (ParallelBegin r requested codeptr) = thread_state.OVERHEAD
+state_of W t (ParallelEnd r codeptr) = thread_state.OVERHEAD
 state_of W t (MemberEnd r k) = left_state W t r
-state_of W t (TaskCreate task undeferred codeptr) = work_state W t
-state_of W t (TaskBegin prior task) = work_state W t
 state_of W t (TaskEnd task) = resumed_state W t (task_at W (current W t)).code.todo
-state_of W t (Work endpoint which count codeptr) = work_state W t
-state_of W t (Dispatch share) = work_state W t
-state_of W t (Masked endpoint codeptr) = work_state W t
 state_of W t (Sync which at codeptr) = sync_state which at
 state_of W t (MutexAcquire which wait_id codeptr) = acquire_state W t which
-state_of W t (MutexAcquired which wait_id codeptr) = work_state W t
-state_of W t (MutexReleased which wait_id codeptr) = work_state W t
-state_of W t (LockInit wait_id codeptr) = work_state W t
-state_of W t (LockDestroy wait_id codeptr) = work_state W t
-state_of W t other = thread_state.OVERHEAD
+state_of W t other = work_state W t
 
 -- what the thread waits for, where it is in one of the two states of waiting for a lock or critical
 abbrev pub awaited : MutexKind → ℕ → ℕ

@@ -2,7 +2,7 @@
 use Rattle.std.specs.Prelude.{ℕ, zero, suc, ◌+◌, ◌&&◌, Bool, true, false, nat_le, nat_lt, if◌then◌else◌, Option, Some, None, is_none, slice_set}
 use Rattle.omp_model.specs.declared.limits.TheConstants.{STEPS, STEPS_OF_A_TURN, TURNS, TURN_LIMIT}
 use Rattle.omp_model.specs.declared.event.Arrival.{Arrival}
-use Rattle.omp_model.specs.declared.event.Arrival.TheVariants.{Comes, Meets, Steps, Waits}
+use Rattle.omp_model.specs.declared.event.Arrival.TheVariants.{CodeEvent, RuntimeEvent, Steps, Waits}
 use Rattle.omp_model.specs.declared.event.Callback.{Callback}
 use Rattle.omp_model.specs.declared.event.Event.{Event}
 use Rattle.omp_model.specs.declared.event.Halt.{Halt}
@@ -11,9 +11,9 @@ use Rattle.omp_model.specs.declared.event.Outcome.{Outcome}
 use Rattle.omp_model.specs.declared.event.Outcome.TheVariants as outcome
 use Rattle.omp_model.specs.State.{Run, World, State, pending_at}
 use Rattle.omp_model.specs.Gates.{arrival}
-use Rattle.omp_model.specs.Changes.{gone_past}
+use Rattle.omp_model.specs.Changes.{with_masked_skipped}
 use Rattle.omp_model.specs.Silent.{Silence, Goes, Stops, silent_step}
-use Rattle.omp_model.specs.Going.{Going, Nothing, Happens, Halts, going_beside, going_in_code}
+use Rattle.omp_model.specs.EventEffects.{Going, Nothing, Happens, Halts, go_of_runtime, go_of_code}
 
 -- the silent steps of a turn: the state after them, how many were made, and the trap or limit that stopped them
 pub record Walk : Type 0 where
@@ -30,8 +30,8 @@ stepped S after = record S { world = after; steps = S.steps + 1 }
 
 -- The state in which a step or an event of the code halts the run, and from which an event of the code occurs: the task has left out what it goes past.
 -- Where the code isn't tried, it is left as it is.
-abbrev pub going_past : State → ℕ → State
-going_past S t = record S { world = gone_past S.world t }
+abbrev pub state_past_masked : State → ℕ → State
+state_past_masked S t = record S { world = with_masked_skipped S.world t }
 
 abbrev pub walk_by : State → ℕ → Silence → (World → Walk) → Walk
 walk_by S made (Goes after) more = more after
@@ -42,7 +42,7 @@ abbrev pub walk_on : Run → State → ℕ → ℕ → Arrival → (World → Wa
 walk_on run S t made Steps more =
     if nat_le run.steps S.steps
     then walked S made (Some (Limit STEPS))
-    else walk_by (going_past S t) made (silent_step run S.world t) more
+    else walk_by (state_past_masked S t) made (silent_step run S.world t) more
 walk_on run S t made other more = walked S made None
 
 -- up to `left` more silent steps, after `made` ones
@@ -84,8 +84,8 @@ with_going S made t (Halts halt) = halted S halt
 abbrev pub after_steps : Run → State → ℕ → ℕ → Arrival → Turn
 after_steps run S made t Waits = without_event S made
 after_steps run S made t Steps = without_event S made
-after_steps run S made t Comes = with_going (going_past S t) made t (going_in_code run (gone_past S.world t) t)
-after_steps run S made t (Meets event) = with_going S made t (going_beside S.world t event)
+after_steps run S made t CodeEvent = with_going (state_past_masked S t) made t (go_of_code run (with_masked_skipped S.world t) t)
+after_steps run S made t (RuntimeEvent event) = with_going S made t (go_of_runtime S.world t event)
 
 abbrev pub after_walk : Run → Walk → ℕ → Option Halt → Turn
 after_walk run walk t (Some halt) = halted walk.state halt
@@ -108,8 +108,8 @@ has_outcome other = true
 abbrev pub goes_on : Arrival → Bool
 goes_on Waits = false
 goes_on Steps = true
-goes_on Comes = true
-goes_on (Meets event) = true
+goes_on CodeEvent = true
+goes_on (RuntimeEvent event) = true
 
 -- the thread is inside no callback, the run isn't halted, and a silent step or an event comes next for which the thread doesn't wait
 unfoldable pub enabled : State → ℕ → Bool

@@ -126,9 +126,9 @@ pub enum Arrival {
     /// A silent step of its current task's code.
     Steps,
     /// An event of its current task's code.
-    Comes,
+    CodeEvent,
     /// An event that stands beside all code.
-    Meets(Event),
+    RuntimeEvent(Event),
 }
 
 /// The callback that a thread is inside.

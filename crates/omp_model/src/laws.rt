@@ -8,7 +8,7 @@ ghost use Rattle.omp_model.specs.Conditions.{BackActs, GoActs, IsOrderly};
 ghost use Rattle.omp_model.specs.Empty.{empty_history, empty_records, empty_run};
 ghost use Rattle.omp_model.specs.Gates.{arrival};
 ghost use Rattle.omp_model.specs.Legal.{Legal, after};
-ghost use Rattle.omp_model.specs.Made.{IsMadeState, IsRegion, IsTeam};
+ghost use Rattle.omp_model.specs.MadeWorld.{IsMadeState, IsRegion, IsTeam};
 ghost use Rattle.omp_model.specs.Members.{current, is_member};
 ghost use Rattle.omp_model.specs.Named.{IsMade, IsMadeCall, IsMadeSnapshot};
 ghost use Rattle.omp_model.specs.Records.{records_of};
@@ -16,7 +16,7 @@ ghost use Rattle.omp_model.specs.Serial.{StoresNothing, WholeSerial, serial};
 ghost use Rattle.omp_model.specs.Snapshots.{snap_of};
 ghost use Rattle.omp_model.specs.State.{Run, State, World, pending_at, region_at};
 ghost use Rattle.omp_model.specs.Turn.{enabled, has_outcome, turn, unlimited, walk};
-ghost use Rattle.omp_model.specs.declared.event.Arrival.TheVariants.{Meets};
+ghost use Rattle.omp_model.specs.declared.event.Arrival.TheVariants.{RuntimeEvent};
 ghost use Rattle.omp_model.specs.declared.event.Callback.{Callback};
 ghost use Rattle.omp_model.specs.declared.event.Event.{Event};
 ghost use Rattle.omp_model.specs.declared.event.Outcome.TheVariants.{Happens};
@@ -115,7 +115,7 @@ pub fn tasks_are_orderly()
         IsOrderly (after run history) }
     ensures at_gos { (run : Run) (history : List Entry) (t count : ℕ) (event : Event) → 1 ≤ run.threads →
         Legal run history →
-        let W = (walk run count 0 (after run history) t).state.world in arrival W t ≡ Meets event → GoActs W t event }
+        let W = (walk run count 0 (after run history) t).state.world in arrival W t ≡ RuntimeEvent event → GoActs W t event }
     ensures at_backs { (run : Run) (history : List Entry) (t : ℕ) (callback : Callback) → 1 ≤ run.threads →
         Legal run history →
         pending_at (after run history) t ≡ Some callback → BackActs (after run history).world callback.event }

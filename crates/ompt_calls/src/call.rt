@@ -154,210 +154,111 @@ pub enum Call {
     },
 }
 
+/// The table of the callbacks: a row has the callback's number, its variant, and its arguments in the order of the specification
+/// (OpenMP 5.2, 19.5.2), each with the variant of `Argument` that it is. The macro `$row` makes a `match` of the rows.
+#[macro_export]
+macro_rules! by_callback {
+    ($row:ident, $($given:expr),+) => {
+        $row!(
+            $($given),+;
+            THREAD_BEGIN ThreadBegin { kind: Short, thread: Word }
+            THREAD_END ThreadEnd { thread: Word }
+            PARALLEL_BEGIN ParallelBegin {
+                task: Word, frame: Frame, region: Word, requested: Short, flags: Short, codeptr: Long
+            }
+            PARALLEL_END ParallelEnd { region: Word, task: Word, flags: Short, codeptr: Long }
+            TASK_CREATE TaskCreate {
+                task: Word, frame: Frame, fresh: Word, flags: Short, has_dependences: Short, codeptr: Long
+            }
+            TASK_SCHEDULE TaskSchedule { prior: Word, status: Short, next: Word }
+            IMPLICIT_TASK ImplicitTask {
+                endpoint: Short, region: Word, task: Word, actual: Short, index: Short, flags: Short
+            }
+            SYNC_REGION_WAIT SyncRegionWait {
+                kind: Short, endpoint: Short, region: Word, task: Word, codeptr: Long
+            }
+            MUTEX_RELEASED MutexReleased { kind: Short, wait_id: Short, codeptr: Long }
+            WORK Work {
+                kind: Short, endpoint: Short, region: Word, task: Word, count: Long, codeptr: Long
+            }
+            MASKED Masked { endpoint: Short, region: Word, task: Word, codeptr: Long }
+            SYNC_REGION SyncRegion {
+                kind: Short, endpoint: Short, region: Word, task: Word, codeptr: Long
+            }
+            LOCK_INIT LockInit {
+                kind: Short, hint: Short, variant: Short, wait_id: Short, codeptr: Long
+            }
+            LOCK_DESTROY LockDestroy { kind: Short, wait_id: Short, codeptr: Long }
+            MUTEX_ACQUIRE MutexAcquire {
+                kind: Short, hint: Short, variant: Short, wait_id: Short, codeptr: Long
+            }
+            MUTEX_ACQUIRED MutexAcquired { kind: Short, wait_id: Short, codeptr: Long }
+            DISPATCH Dispatch {
+                region: Word, task: Word, kind: Short, start: Long, iterations: Long
+            }
+        )
+    };
+}
+
+/// The number of the callback of each row.
+macro_rules! number_by_row {
+    ($call:expr; $($number:ident $variant:ident { $($field:ident: $form:ident),+ })+) => {
+        match $call {
+            $(Call::$variant { .. } => callbacks::$number,)+
+        }
+    };
+}
+
+/// The arguments of each row.
+macro_rules! arguments_by_row {
+    ($call:expr; $($number:ident $variant:ident { $($field:ident: $form:ident),+ })+) => {
+        match $call {
+            $(Call::$variant { $($field),+ } => listed!($(Argument::$form($field)),+),)+
+        }
+    };
+}
+
+/// So many arguments.
+macro_rules! listed {
+    ($a:expr) => {
+        Arguments::one($a)
+    };
+    ($a:expr, $b:expr) => {
+        Arguments::two($a, $b)
+    };
+    ($a:expr, $b:expr, $c:expr) => {
+        Arguments::three($a, $b, $c)
+    };
+    ($a:expr, $b:expr, $c:expr, $d:expr) => {
+        Arguments::four($a, $b, $c, $d)
+    };
+    ($a:expr, $b:expr, $c:expr, $d:expr, $e:expr) => {
+        Arguments::five($a, $b, $c, $d, $e)
+    };
+    ($($item:expr),+) => {
+        Arguments::six([$($item),+])
+    };
+}
+
 impl Call {
     /// The callback's value in `ompt_callbacks_t` (OpenMP 5.2, 19.4.2).
     pub fn number(&self) -> u32
         ensures { result ≡ number_of self.now }
     {
-        match self {
-            Call::ThreadBegin { .. } => callbacks::THREAD_BEGIN,
-            Call::ThreadEnd { .. } => callbacks::THREAD_END,
-            Call::ParallelBegin { .. } => callbacks::PARALLEL_BEGIN,
-            Call::ParallelEnd { .. } => callbacks::PARALLEL_END,
-            Call::TaskCreate { .. } => callbacks::TASK_CREATE,
-            Call::TaskSchedule { .. } => callbacks::TASK_SCHEDULE,
-            Call::ImplicitTask { .. } => callbacks::IMPLICIT_TASK,
-            Call::SyncRegionWait { .. } => callbacks::SYNC_REGION_WAIT,
-            Call::MutexReleased { .. } => callbacks::MUTEX_RELEASED,
-            Call::Work { .. } => callbacks::WORK,
-            Call::Masked { .. } => callbacks::MASKED,
-            Call::SyncRegion { .. } => callbacks::SYNC_REGION,
-            Call::LockInit { .. } => callbacks::LOCK_INIT,
-            Call::LockDestroy { .. } => callbacks::LOCK_DESTROY,
-            Call::MutexAcquire { .. } => callbacks::MUTEX_ACQUIRE,
-            Call::MutexAcquired { .. } => callbacks::MUTEX_ACQUIRED,
-            Call::Dispatch { .. } => callbacks::DISPATCH,
-        }
+        by_callback!(number_by_row, self)
     }
 
     /// The name of the callback, as a line has it: that of OpenMP 5.2, 19.4.2, without `ompt_callback_`.
     pub fn name(&self) -> &'static str
         ensures { result.now ≡ name_of self.now }
     {
-        match self {
-            Call::ThreadBegin { .. } => "thread_begin",
-            Call::ThreadEnd { .. } => "thread_end",
-            Call::ParallelBegin { .. } => "parallel_begin",
-            Call::ParallelEnd { .. } => "parallel_end",
-            Call::TaskCreate { .. } => "task_create",
-            Call::TaskSchedule { .. } => "task_schedule",
-            Call::ImplicitTask { .. } => "implicit_task",
-            Call::SyncRegionWait { .. } => "sync_region_wait",
-            Call::MutexReleased { .. } => "mutex_released",
-            Call::Work { .. } => "work",
-            Call::Masked { .. } => "masked",
-            Call::SyncRegion { .. } => "sync_region",
-            Call::LockInit { .. } => "lock_init",
-            Call::LockDestroy { .. } => "lock_destroy",
-            Call::MutexAcquire { .. } => "mutex_acquire",
-            Call::MutexAcquired { .. } => "mutex_acquired",
-            Call::Dispatch { .. } => "dispatch",
-        }
+        callbacks::name(self.number())
     }
 
     /// The arguments in their order.
     pub fn arguments(&self) -> Arguments
         ensures { result ≡ arguments_of self.now }
     {
-        use Argument::{Frame, Long, Short, Word};
-        match *self {
-            Call::ThreadBegin { kind, thread } => Arguments::two(Short(kind), Word(thread)),
-            Call::ThreadEnd { thread } => Arguments::one(Word(thread)),
-            Call::ParallelBegin {
-                task,
-                frame,
-                region,
-                requested,
-                flags,
-                codeptr,
-            } => Arguments::six([
-                Word(task),
-                Frame(frame),
-                Word(region),
-                Short(requested),
-                Short(flags),
-                Long(codeptr),
-            ]),
-            Call::ParallelEnd {
-                region,
-                task,
-                flags,
-                codeptr,
-            } => Arguments::four(Word(region), Word(task), Short(flags), Long(codeptr)),
-            Call::TaskCreate {
-                task,
-                frame,
-                fresh,
-                flags,
-                has_dependences,
-                codeptr,
-            } => Arguments::six([
-                Word(task),
-                Frame(frame),
-                Word(fresh),
-                Short(flags),
-                Short(has_dependences),
-                Long(codeptr),
-            ]),
-            Call::TaskSchedule {
-                prior,
-                status,
-                next,
-            } => Arguments::three(Word(prior), Short(status), Word(next)),
-            Call::ImplicitTask {
-                endpoint,
-                region,
-                task,
-                actual,
-                index,
-                flags,
-            } => Arguments::six([
-                Short(endpoint),
-                Word(region),
-                Word(task),
-                Short(actual),
-                Short(index),
-                Short(flags),
-            ]),
-            Call::SyncRegionWait {
-                kind,
-                endpoint,
-                region,
-                task,
-                codeptr,
-            }
-            | Call::SyncRegion {
-                kind,
-                endpoint,
-                region,
-                task,
-                codeptr,
-            } => Arguments::five(
-                Short(kind),
-                Short(endpoint),
-                Word(region),
-                Word(task),
-                Long(codeptr),
-            ),
-            Call::MutexReleased {
-                kind,
-                wait_id,
-                codeptr,
-            }
-            | Call::LockDestroy {
-                kind,
-                wait_id,
-                codeptr,
-            }
-            | Call::MutexAcquired {
-                kind,
-                wait_id,
-                codeptr,
-            } => Arguments::three(Short(kind), Short(wait_id), Long(codeptr)),
-            Call::Work {
-                kind,
-                endpoint,
-                region,
-                task,
-                count,
-                codeptr,
-            } => Arguments::six([
-                Short(kind),
-                Short(endpoint),
-                Word(region),
-                Word(task),
-                Long(count),
-                Long(codeptr),
-            ]),
-            Call::Masked {
-                endpoint,
-                region,
-                task,
-                codeptr,
-            } => Arguments::four(Short(endpoint), Word(region), Word(task), Long(codeptr)),
-            Call::LockInit {
-                kind,
-                hint,
-                variant,
-                wait_id,
-                codeptr,
-            }
-            | Call::MutexAcquire {
-                kind,
-                hint,
-                variant,
-                wait_id,
-                codeptr,
-            } => Arguments::five(
-                Short(kind),
-                Short(hint),
-                Short(variant),
-                Short(wait_id),
-                Long(codeptr),
-            ),
-            Call::Dispatch {
-                region,
-                task,
-                kind,
-                start,
-                iterations,
-            } => Arguments::five(
-                Word(region),
-                Word(task),
-                Short(kind),
-                Long(start),
-                Long(iterations),
-            ),
-        }
+        by_callback!(arguments_by_row, *self)
     }
 }

@@ -20,6 +20,9 @@
 //!   and `parallel_info` say; [`Snapshot::target`] the word at a place, as `target_of` says;
 //! - [`is_registered`] says whether a number is in a mask, for every number.
 //!
+//! The macro [`by_callback!`] is the table of the callbacks: a row has a callback's number, its variant and its arguments, and the macro that
+//! it is given makes a `match` of the rows. [`Call::number`] and [`Call::arguments`] are made by it, and so is what reads a trace.
+//!
 //! An [`EventRecord`] is what is kept of an event that a tool heard.
 //!
 //! A [`Reply`] has the stores of a tool. Which of them take effect, and in which words, is the definition `stores_of`. What

@@ -17,7 +17,7 @@ use Rattle.omp_model.specs.declared.parts.ThreadStage.{ThreadStage}
 use Rattle.omp_model.specs.declared.parts.ThreadStage.TheVariants as stage
 use Rattle.omp_model.proofs.Alike.{QuietWorld}
 use Rattle.omp_model.specs.Cause.{threads_over}
-use Rattle.omp_model.specs.Changes.{all_summoned, made, opened, summoned}
+use Rattle.omp_model.specs.Changes.{with_invitations, stage_once_made, with_members_invited, with_invitation}
 use Rattle.omp_model.specs.Gates.{arrival, arrival_at, is_out}
 use Rattle.omp_model.specs.Legal.{AllowsFrom, Legal, after, after_from, back_from, does, entered, may, put_from}
 use Rattle.omp_model.specs.Members.{is_outermost}
@@ -102,7 +102,7 @@ put-leaves S t target word (Some callback) is left =
     }) left
 
 -- a thread that is summoned and hadn't ended hasn't ended
-made-in : (now : ThreadStage) → is_out now ≡ false → is_out (made now) ≡ false
+made-in : (now : ThreadStage) → is_out now ≡ false → is_out (stage_once_made now) ≡ false
 made-in stage.Unmade is = refl
 made-in stage.Made is = is
 made-in stage.Begun is = is
@@ -114,11 +114,11 @@ module _ (W : World) (t u : ℕ) (other : u ≡ t → ⊥) (is : IsIn (thread_at
   either-in true after changed = changed
   either-in false after changed = is
 
-  opened-in : (r : ℕ) → IsIn (thread_at (opened W t r) u)
+  opened-in : (r : ℕ) → IsIn (thread_at (with_members_invited W t r) u)
   opened-in r =
-      elim (is_outermost W r) as (λ b. IsIn (thread_at (if b then record W { threads = all_summoned r (region_at W r).head.size W.threads } else with_thread W t (summoned r (thread_at W t))) u)) [
+      elim (is_outermost W r) as (λ b. IsIn (thread_at (if b then record W { threads = with_invitations r (region_at W r).head.size W.threads } else with_thread W t (with_invitation r (thread_at W t))) u)) [
         | true ↦ at-summoned IsIn r (region_at W r).head.size W.threads u is (λ within. made-in (thread_at W u).stage is)
-        | false ↦ at-set IsIn unmade W.threads t u (summoned r (thread_at W t)) is (λ same. absurd (other same))
+        | false ↦ at-set IsIn unmade W.threads t u (with_invitation r (thread_at W t)) is (λ same. absurd (other same))
       ]
 
   created-in : (task : ℕ) (undeferred : Bool) → IsIn (thread_at (after_created W t task undeferred) u)

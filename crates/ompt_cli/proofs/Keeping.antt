@@ -6,7 +6,7 @@ use Rattle.std.proofs.lemmas.List.FromFn.{get_or-map-range_with_len, length-map-
 use Rattle.ompt_calls.specs.Item.{Item}
 use Rattle.tool_api.specs.Record.{Record, StartedWith, initialized, StoresNothing}
 use Rattle.omp_codes.specs.declared.callbacks.TheConstants.{PROFILE_MASK}
-use Rattle.tool_report.specs.Standing.{KeeperFor}
+use Rattle.tool_report.specs.KeeperRelation.{KeeperFor}
 use Rattle.tool_report.specs.Order.{AreFrom, AreKept, AreRising, AreShared}
 use Rattle.omp_model.specs.declared.cause.Cause.{Cause}
 use Rattle.omp_model.specs.declared.history.Entry.{Entry}

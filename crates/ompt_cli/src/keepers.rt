@@ -6,7 +6,7 @@ ghost use Rattle.tool_api.specs.Record.{Record};
 ghost use Rattle.ompt_calls.specs.declared.event.EventRecord.{EventRecord};
 ghost use Rattle.tool_report.specs.Generator.{generated, summary_of};
 ghost use Rattle.tool_report.specs.Order.{AreKept, AreShared};
-ghost use Rattle.tool_report.specs.Standing.{KeeperFor};
+ghost use Rattle.tool_report.specs.KeeperRelation.{KeeperFor};
 ghost use Rattle.ompt_words.specs.declared.settings.Command.{Command as SeenCommand};
 ghost use Rattle.ompt_cli.specs.Commands.{columns_in};
 ghost use Rattle.ompt_cli.specs.Reports.{HasObserved};

@@ -10,7 +10,7 @@ use Rattle.c_model.specs.declared.point.SyncKind.{SyncKind}
 use Rattle.c_model.specs.declared.point.SyncStage.{SyncStage}
 use Rattle.c_model.specs.declared.point.SyncStage.TheVariants as stage
 use Rattle.c_model.specs.Begin.{blank_task, explicit_task}
-use Rattle.c_model.specs.Going.{after_answer}
+use Rattle.c_model.specs.AfterEvents.{after_answer}
 use Rattle.c_model.specs.Step.{silent}
 use Rattle.c_model.specs.Task.{Moment, Outcome as Came, Task as Code}
 use Rattle.c_model.specs.Task.Outcome.{Asks, Ends, Limits, Occurs, StepsTo, Traps}
@@ -26,9 +26,9 @@ use Rattle.omp_model.specs.declared.event.Event.TheVariants as event
 use Rattle.omp_model.specs.declared.event.Halt.{Halt}
 use Rattle.omp_model.specs.declared.event.Outcome.{Outcome}
 use Rattle.omp_model.specs.declared.event.Outcome.TheVariants as outcome
-use Rattle.omp_model.specs.Changes.{all_summoned, destroyed, emptied, finished, forked, initialised, is_fresh, member_begun, opened, owned_by, pushed, popped, readied, region_made, started, summoned, taken_up, task_made, with_code, with_team}
+use Rattle.omp_model.specs.Changes.{with_invitations, without_lock, without_code, with_finished_task, with_forked_region, with_initialised_lock, is_fresh, member_begun, with_members_invited, owned_by, with_current_task, without_current_task, with_ready_task, region_made, with_started_task, with_invitation, taken_up, task_made, with_code, with_team}
 use Rattle.omp_model.specs.Gates.{is_barrier}
-use Rattle.omp_model.specs.Going.{Going, Halts, Happens, Nothing, after_creation, after_fork, after_member, after_meeting_at, after_sync, effect_of, effect_of_point, event_of_point, fault_of, fault_of_point, going_by, going_in_code, kind_of_task, member_code, past_point, team_size, told, unless}
+use Rattle.omp_model.specs.EventEffects.{Going, Halts, Happens, Nothing, after_creation, after_fork, after_member, after_meeting_at, after_sync, effect_of, effect_of_point, event_of_point, fault_of, fault_of_point, going_by, go_of_code, kind_of_task, member_code, past_point, team_size, told, unless}
 use Rattle.omp_model.specs.Members.{current, current_region, is_member, is_outermost, moment_of, view_of}
 use Rattle.omp_model.specs.Returning.{after_created, after_wait_begun, at_back}
 use Rattle.omp_model.specs.Silent.{answer_to, answered, share_taken, silence_of, silent_step, team_after}
@@ -36,7 +36,7 @@ use Rattle.omp_model.specs.State.{Region, Run, State, Task, Thread, World, fresh
 use Rattle.omp_model.specs.Turn.{turn}
 use Rattle.omp_model.proofs.Reading.{read-more, read-same}
 use Rattle.omp_model.proofs.Turning.{AfterSilence, Beside, GoOf, OfCode, Turned, of-turn}
-use Rattle.omp_model.specs.Changes.{gone_past, gone_to, sharing}
+use Rattle.omp_model.specs.Changes.{with_masked_skipped, gone_to, with_taken_share}
 use Rattle.run_laws.specs.LastStored.{word_of}
 
 -- the words of all threads, regions and tasks are the same
@@ -84,25 +84,25 @@ same-region W r region same (target.Task k) = refl
 same-code : (W : World) (k : ℕ) (code : Code) → SameWords W (with_code W k code)
 same-code W k code = same-task W k (record (task_at W k) { code = code }) refl
 
-same-forked : (W : World) (k r : ℕ) → SameWords W (forked W k r)
+same-forked : (W : World) (k r : ℕ) → SameWords W (with_forked_region W k r)
 same-forked W k r = same-task W k (record (task_at W k) { forked = r }) refl
 
 same-team : (W : World) (r : ℕ) (team : TeamView) → SameWords W (with_team W r team)
 same-team W r team = same-region W r (record (region_at W r) { team = team }) refl
 
 same-taken_up : (W : World) (t k : ℕ) → SameWords W (taken_up W t k)
-same-taken_up W t k = same-then W (pushed W t k) (taken_up W t k) (same-thread W t _ refl) (same-task (pushed W t k) k (record (task_at W k) { thread = t }) refl)
+same-taken_up W t k = same-then W (with_current_task W t k) (taken_up W t k) (same-thread W t _ refl) (same-task (with_current_task W t k) k (record (task_at W k) { thread = t }) refl)
 
-same-popped : (W : World) (t : ℕ) → SameWords W (popped W t)
+same-popped : (W : World) (t : ℕ) → SameWords W (without_current_task W t)
 same-popped W t = same-thread W t _ refl
 
-same-started : (W : World) (k : ℕ) → SameWords W (started W k)
+same-started : (W : World) (k : ℕ) → SameWords W (with_started_task W k)
 same-started W k = same-either W _ _ (is_finished (pooled_at W k).condition) (same-same W) (same-pool W (with_started W.pool k))
 
-same-finished : (W : World) (k : ℕ) → SameWords W (finished W k)
+same-finished : (W : World) (k : ℕ) → SameWords W (with_finished_task W k)
 same-finished W k = same-either W _ _ (is_under_way (pooled_at W k).condition) (same-pool W (with_finished W.pool k)) (same-same W)
 
-same-readied : (W : World) (k : ℕ) → SameWords W (readied W k)
+same-readied : (W : World) (k : ℕ) → SameWords W (with_ready_task W k)
 same-readied W k = same-either W _ _ (is_fresh (pooled_at W k).condition) (same-pool W (with_ready W.pool k)) (same-same W)
 
 -- a task or a region that is made has the word 0, as there is where there is none
@@ -117,20 +117,20 @@ same-region_made W task size (target.Parallel q) = read-more (λ (x : Region). x
 same-region_made W task size (target.Task k) = refl
 
 -- threads that are to join a region
-summoned-word : (r size : ℕ) (threads : List Thread) (u : ℕ) → (slice_index_or (all_summoned r size threads) u unmade).word ≡ (slice_index_or threads u unmade).word
-unfolding all_summoned
+summoned-word : (r size : ℕ) (threads : List Thread) (u : ℕ) → (slice_index_or (with_invitations r size threads) u unmade).word ≡ (slice_index_or threads u unmade).word
+unfolding with_invitations
 summoned-word r zero threads u = refl
 summoned-word r (suc size) [] u = refl
 summoned-word r (suc size) (thread ∷ threads) zero = refl
 summoned-word r (suc size) (thread ∷ threads) (suc u) = summoned-word r size threads u
 
-same-all_summoned : (W : World) (r size : ℕ) → SameWords W (record W { threads = all_summoned r size W.threads })
+same-all_summoned : (W : World) (r size : ℕ) → SameWords W (record W { threads = with_invitations r size W.threads })
 same-all_summoned W r size (target.Thread u) = summoned-word r size W.threads u
 same-all_summoned W r size (target.Parallel q) = refl
 same-all_summoned W r size (target.Task k) = refl
 
-same-opened : (W : World) (t r : ℕ) → SameWords W (opened W t r)
-same-opened W t r = same-either W _ _ (is_outermost W r) (same-all_summoned W r (region_at W r).head.size) (same-thread W t (summoned r (thread_at W t)) refl)
+same-opened : (W : World) (t r : ℕ) → SameWords W (with_members_invited W t r)
+same-opened W t r = same-either W _ _ (is_outermost W r) (same-all_summoned W r (region_at W r).head.size) (same-thread W t (with_invitation r (thread_at W t)) refl)
 
 -- The return of a callback.
 
@@ -158,7 +158,7 @@ same-member : (W : World) (t r k : ℕ) → SameWords W (after_member W t r k)
 same-member W t r k =
     let parent = (region_at W r).head.task in
     let one = task_made W parent r kind.Implicit (member_code (task_at W parent).code) in
-    let two = started one k in
+    let two = with_started_task one k in
     let three = taken_up two t k in
     same-then W one (after_member W t r k) (same-task_made W parent r kind.Implicit (member_code (task_at W parent).code))
     (same-then one two (after_member W t r k) (same-started one k)
@@ -169,18 +169,18 @@ unfolding effect_of
 same-beside W t event.ThreadBegin = same-thread W t _ refl
 same-beside W t event.InitialTaskBegin =
     let one = taken_up W t 1 in
-    let two = started one 1 in
+    let two = with_started_task one 1 in
     let after = member_begun two 1 0 1 in
     same-then W one after (same-taken_up W t 1) (same-then one two after (same-started one 1) (same-region two 1 _ refl))
-same-beside W t event.InitialTaskEnd = let one = popped W t in same-then W one (finished one 1) (same-popped W t) (same-finished one 1)
+same-beside W t event.InitialTaskEnd = let one = without_current_task W t in same-then W one (with_finished_task one 1) (same-popped W t) (same-finished one 1)
 same-beside W t (event.MemberBegin r k) = same-member W t r k
 same-beside W t (event.MemberEnd r k) =
-    let one = popped W t in
-    let two = finished one k in
-    let after = emptied two k in
+    let one = without_current_task W t in
+    let two = with_finished_task one k in
+    let after = without_code two k in
     same-then W one after (same-popped W t) (same-then one two after (same-finished one k) (same-code two k blank_task))
-same-beside W t (event.TaskBegin prior task) = let one = taken_up W t task in same-then W one (started one task) (same-taken_up W t task) (same-started one task)
-same-beside W t (event.TaskEnd task) = let one = popped W t in same-then W one (emptied one task) (same-popped W t) (same-code one task blank_task)
+same-beside W t (event.TaskBegin prior task) = let one = taken_up W t task in same-then W one (with_started_task one task) (same-taken_up W t task) (same-started one task)
+same-beside W t (event.TaskEnd task) = let one = without_current_task W t in same-then W one (without_code one task) (same-popped W t) (same-code one task blank_task)
 same-beside W t (event.Dispatch share) = same-thread W t _ refl
 same-beside W t other = same-same W
 
@@ -203,7 +203,7 @@ same-creation run W t now undeferred =
 
 same-fork : (W : World) (t requested : ℕ) → SameWords W (after_fork W t requested)
 same-fork W t requested =
-    let one = forked W (current W t) (length W.regions) in
+    let one = with_forked_region W (current W t) (length W.regions) in
     same-then W one (after_fork W t requested) (same-forked W (current W t) (length W.regions)) (same-region_made one (current W t) (team_size W t requested))
 
 same-point : (run : Run) (W : World) (t : ℕ) (now : Moment) (what : Point) → SameWords W (effect_of_point run W t now what)
@@ -215,8 +215,8 @@ same-point run W t now (point.WorkBegin codeptr what) = same-meeting W t _
 same-point run W t now (point.Sync codeptr which at) = same-sync W t codeptr which at
 same-point run W t now (point.MutexAcquired codeptr wait_id which) = same-locks W (owned_by W wait_id (Some (current W t))).locks
 same-point run W t now (point.MutexReleased codeptr wait_id which) = same-locks W (owned_by W wait_id None).locks
-same-point run W t now (point.LockInit codeptr wait_id) = same-locks W (initialised W wait_id).locks
-same-point run W t now (point.LockDestroy codeptr wait_id) = same-locks W (destroyed W wait_id).locks
+same-point run W t now (point.LockInit codeptr wait_id) = same-locks W (with_initialised_lock W wait_id).locks
+same-point run W t now (point.LockDestroy codeptr wait_id) = same-locks W (without_lock W wait_id).locks
 same-point run W t now other = same-same W
 
 -- where the event happens, all words are the same in the world after it
@@ -240,8 +240,8 @@ same-by run W t now (StepsTo next) = tt
 same-by run W t now (Asks ask tree) = tt
 same-by run W t now (Ends number) = tt
 
-same-in_code : (run : Run) (W : World) (t : ℕ) → SameGoing W (going_in_code run W t)
-unfolding going_in_code
+same-in_code : (run : Run) (W : World) (t : ℕ) → SameGoing W (go_of_code run W t)
+unfolding go_of_code
 same-in_code run W t = let now = told W t in same-by run W t now (silent run.program (view_of W t) now)
 
 same-go : (run : Run) (W after : World) (t : ℕ) (e : Event) → GoOf run W t e after → SameWords W after
@@ -250,7 +250,7 @@ same-go run W after t e (Beside meets happens) = subst (SameGoing W) happens (sa
 
 -- Silent steps.
 
-same-past : (W : World) (t : ℕ) → SameWords W (gone_past W t)
+same-past : (W : World) (t : ℕ) → SameWords W (with_masked_skipped W t)
 same-past W t = same-code W (current W t) _
 
 same-gone : (W : World) (k : ℕ) (now : Moment) → SameWords W (gone_to W k now)
@@ -261,7 +261,7 @@ same-answered W t what tree =
     let given = answer_to W t what in
     let now = after_answer (view_of W t) given (moment_of W t) in
     let one = gone_to W (current W t) now in
-    let two = sharing one t (share_taken tree given) in
+    let two = with_taken_share one t (share_taken tree given) in
     let after = answered W t what tree in
     same-then W one after (same-gone W (current W t) now) (same-then one two after (same-thread one t _ refl) (same-team two (current_region W t) (team_after W t what)))
 
@@ -288,5 +288,5 @@ same-turned run W after t (outcome.Halts halt) so = so
 pub same-turn : (run : Run) (S : State) (t : ℕ) → SameWords S.world (turn run S t).state.world
 same-turn run S t =
     same-turned run S.world (turn run S t).state.world t (turn run S t).outcome
-    (of-turn run t (SameWords S.world) (λ W so. same-then S.world W (gone_past W t) so (same-past W t))
+    (of-turn run t (SameWords S.world) (λ W so. same-then S.world W (with_masked_skipped W t) so (same-past W t))
     (λ W steps so. same-step run W S.world t so) S (same-same S.world))

@@ -21,12 +21,13 @@ use Rattle.omp_model.specs.declared.event.Share.TheVariants.{Chunk, Section}
 use Rattle.omp_model.specs.State.{World, pooled_at, region_at, task_at}
 use Rattle.omp_model.proofs.Alike.{IsSomeShare}
 use Rattle.omp_model.specs.Members.{current, current_region}
-use Rattle.omp_model.specs.Going.{sync_number}
+use Rattle.omp_model.specs.EventEffects.{sync_number}
 use Rattle.omp_model.specs.Words.{null_word, region_word, task_word, thread_word}
 use Rattle.omp_model.specs.Calls.{call_of, dispatch_call, endpoint_number, mutex_number, own_region_word, own_task_word, sync_call, synced_region, thread_kind, work_number}
 use Rattle.omp_model.specs.Snapshots.{task_flags as flags_of}
-use Rattle.trace_format.specs.Fitting.{FitsCall, FitsWord}
+use Rattle.trace_format.specs.Fitting.{FitsWord}
 use Rattle.trace_format.specs.Validity.{IsAmong, IsCall, IsWord, endpoints, mutex_kinds, sync_kinds, task_flags, thread_kinds, work_kinds}
+use Rattle.run_trace.proofs.Fits.{HasFit}
 use Rattle.run_trace.proofs.Sensible.{HasNulls, IsSensible}
 
 -- Words.
@@ -99,19 +100,19 @@ module _ (W : World) (t : ℕ) (nulls : HasNulls W) where
   own-task : FitsWord (own_task_word W t) → IsWord (own_task_word W t)
   own-task fits = task-stands W nulls (current W t) fits
 
-  dispatch-stands : (share : Share) → IsSomeShare share → FitsCall (dispatch_call W t share) → IsCall (dispatch_call W t share)
+  dispatch-stands : (share : Share) → IsSomeShare share → HasFit (dispatch_call W t share) → IsCall (dispatch_call W t share)
   dispatch-stands (Chunk start count) some fits =
       (own-region fits.0, own-task fits.1, fits.2, (refl, λ is. absurd (omega arith), λ is. some, fits.3))
   dispatch-stands (Section codeptr) some fits = (own-region fits.0, own-task fits.1, fits.2, (refl, λ is. refl, λ is. absurd (omega arith), fits.3))
 
-  sync-stands : (which : SyncKind) (codeptr : ℕ) (at : SyncStage) → FitsCall (sync_call W t which codeptr at) → IsCall (sync_call W t which codeptr at)
+  sync-stands : (which : SyncKind) (codeptr : ℕ) (at : SyncStage) → HasFit (sync_call W t which codeptr at) → IsCall (sync_call W t which codeptr at)
   sync-stands which codeptr stage.RegionBegin fits =
       (sync-kind which, refl, synced-stands W nulls t which stage.RegionBegin fits.0, own-task fits.1, fits.2)
   sync-stands which codeptr stage.WaitBegin fits = (sync-kind which, refl, synced-stands W nulls t which stage.WaitBegin fits.0, own-task fits.1, fits.2)
   sync-stands which codeptr stage.WaitEnd fits = (sync-kind which, refl, synced-stands W nulls t which stage.WaitEnd fits.0, own-task fits.1, fits.2)
   sync-stands which codeptr stage.RegionEnd fits = (sync-kind which, refl, synced-stands W nulls t which stage.RegionEnd fits.0, own-task fits.1, fits.2)
 
-  pub stands : (event : Event) → IsSensible W event → FitsCall (call_of W t event) → IsCall (call_of W t event)
+  pub stands : (event : Event) → IsSensible W event → HasFit (call_of W t event) → IsCall (call_of W t event)
   unfolding call_of
   stands ThreadBegin sensible fits = (thread-kind t, thread-stands W t fits)
   stands ThreadEnd sensible fits = thread-stands W t fits

@@ -8,7 +8,7 @@ use Rattle.c_model.specs.declared.point.SyncKind.{SyncKind}
 use Rattle.c_model.specs.declared.point.SyncStage.{SyncStage}
 use Rattle.c_model.specs.declared.point.SyncStage.TheVariants as stage
 use Rattle.c_model.specs.Begin.{blank_task, explicit_task}
-use Rattle.c_model.specs.Going.{after_event}
+use Rattle.c_model.specs.AfterEvents.{after_event}
 use Rattle.c_model.specs.Step.{silent}
 use Rattle.c_model.specs.Task.{Moment, Outcome, Task as Code}
 use Rattle.c_model.specs.Task.Outcome.{Occurs}
@@ -29,8 +29,8 @@ use Rattle.omp_model.specs.State.{Region, Run, Task, World, is_under_way, no_reg
 use Rattle.omp_model.proofs.Alike.{QuietWorld}
 use Rattle.omp_model.specs.Members.{current, current_index, current_region, is_member, is_outermost, view_of}
 use Rattle.omp_model.specs.Gates.{is_barrier}
-use Rattle.omp_model.specs.Changes.{all_summoned, begun, finished, forked, is_fresh, met, opened, passed, popped, pushed, readied, region_made, started, summoned, taken_up, task_made, with_code, with_head, with_team}
-use Rattle.omp_model.specs.Going.{Going, Nothing, Halts, Happens as Occurred, after_meeting_at, after_member, after_sync, barrier_met, effect_of, effect_of_point, event_of_point, executes_point, fault_of_point, going_by, going_in_code, kind_of_task, member_code, past_point, told, unless, work_met}
+use Rattle.omp_model.specs.Changes.{with_invitations, with_wait_begun, with_finished_task, with_forked_region, is_fresh, with_member_meeting, with_members_invited, with_barrier_passed, without_current_task, with_current_task, with_ready_task, region_made, with_started_task, with_invitation, taken_up, task_made, with_code, with_head, with_team}
+use Rattle.omp_model.specs.EventEffects.{Going, Nothing, Halts, Happens as Occurred, after_meeting_at, after_member, after_sync, barrier_met, effect_of, effect_of_point, event_of_point, executes_point, fault_of_point, going_by, go_of_code, kind_of_task, member_code, past_point, told, unless, work_met}
 use Rattle.omp_model.specs.Returning.{after_created, at_back}
 use Rattle.omp_model.specs.Words.{stored, is_made}
 use Rattle.omp_model.proofs.Later.{at-set}
@@ -81,21 +81,21 @@ bare-region_made : (W : World) (region : Region) → IsBare W → region.head.wo
 bare-region_made W region bare fresh =
     record { task = bare.task; region = at-push (λ (x : Region). x.head.word ≡ 0) no_region W.regions region 0 bare.region fresh }
 
-bare-readied : (W : World) (k : ℕ) → IsBare W → IsBare (readied W k)
+bare-readied : (W : World) (k : ℕ) → IsBare W → IsBare (with_ready_task W k)
 bare-readied W k bare = bare-either (record W { pool = with_ready W.pool k }) W (is_fresh (pooled_at W k).condition) bare bare
 
-bare-started : (W : World) (k : ℕ) → IsBare W → IsBare (started W k)
+bare-started : (W : World) (k : ℕ) → IsBare W → IsBare (with_started_task W k)
 bare-started W k bare = bare-either W (record W { pool = with_started W.pool k }) (is_finished (pooled_at W k).condition) bare bare
 
-bare-finished : (W : World) (k : ℕ) → IsBare W → IsBare (finished W k)
+bare-finished : (W : World) (k : ℕ) → IsBare W → IsBare (with_finished_task W k)
 bare-finished W k bare = bare-either (record W { pool = with_finished W.pool k }) W (is_under_way (pooled_at W k).condition) bare bare
 
-bare-opened : (W : World) (t r : ℕ) → IsBare W → IsBare (opened W t r)
+bare-opened : (W : World) (t r : ℕ) → IsBare W → IsBare (with_members_invited W t r)
 bare-opened W t r bare =
-    bare-either (record W { threads = all_summoned r (region_at W r).head.size W.threads }) (with_thread W t (summoned r (thread_at W t))) (is_outermost W r) bare bare
+    bare-either (record W { threads = with_invitations r (region_at W r).head.size W.threads }) (with_thread W t (with_invitation r (thread_at W t))) (is_outermost W r) bare bare
 
 bare-taken_up : (W : World) (t k : ℕ) → IsBare W → IsBare (taken_up W t k)
-bare-taken_up W t k bare = bare-task (pushed W t k) k _ bare refl
+bare-taken_up W t k bare = bare-task (with_current_task W t k) k _ bare refl
 
 -- silent steps
 pub bare-quiet : (t : ℕ) (W after : World) → QuietWorld t W after → IsBare W → IsBare after
@@ -105,19 +105,19 @@ bare-quiet t W after quiet bare = record { task = quiet.task_words 0 ∙ bare.ta
 
 bare-met : (W : World) (t : ℕ) (what : Meeting) → IsBare W → IsBare (after_meeting_at W t what)
 bare-met W t what bare =
-    bare-either (met W (current_region W t) (current_index W t) what) W (is_member W t) (bare-team W (current_region W t) _ bare) bare
+    bare-either (with_member_meeting W (current_region W t) (current_index W t) what) W (is_member W t) (bare-team W (current_region W t) _ bare) bare
 
 bare-synced : (W : World) (t codeptr : ℕ) (which : SyncKind) (at : SyncStage) → IsBare W → IsBare (after_sync W t codeptr which at)
 bare-synced W t codeptr which stage.RegionBegin bare =
     let what = barrier_met codeptr which in bare-either (after_meeting_at W t what) W (is_barrier which) (bare-met W t what bare) bare
 bare-synced W t codeptr which stage.WaitEnd bare =
-    bare-either (passed W (current_region W t) (current_index W t)) W (is_barrier which) (bare-team W (current_region W t) _ bare) bare
+    bare-either (with_barrier_passed W (current_region W t) (current_index W t)) W (is_barrier which) (bare-team W (current_region W t) _ bare) bare
 bare-synced W t codeptr which other bare = bare
 
 bare-effect : (run : Run) (W : World) (t : ℕ) (now : Moment) (what : Point) → IsBare W → IsBare (effect_of_point run W t now what)
 unfolding effect_of_point
 bare-effect run W t now (point.ParallelBegin codeptr requested) bare =
-    bare-region_made (forked W (current W t) (length W.regions)) _ (bare-task W (current W t) _ bare refl) refl
+    bare-region_made (with_forked_region W (current W t) (length W.regions)) _ (bare-task W (current W t) _ bare refl) refl
 bare-effect run W t now (point.ParallelEnd codeptr) bare = bare-head W (task_at W (current W t)).forked _ bare refl
 bare-effect run W t now (point.TaskCreate codeptr undeferred) bare =
     bare-task_made W (current W t) (current_region W t) (kind_of_task undeferred) (explicit_task run.program (view_of W t) now).task bare
@@ -145,8 +145,8 @@ bare-going run W t now (Occurs what tree) bare =
     (bare-code between (current between t) (after_event (view_of W t) what (executes_point W t what) now.task) (bare-effect run W t now what bare))
 bare-going run W t now other bare = tt
 
-pub bare-in_code : (run : Run) (W : World) (t : ℕ) → IsBare W → BareGoing (going_in_code run W t)
-unfolding going_in_code
+pub bare-in_code : (run : Run) (W : World) (t : ℕ) → IsBare W → BareGoing (go_of_code run W t)
+unfolding go_of_code
 bare-in_code run W t bare = bare-going run W t (told W t) (silent run.program (view_of W t) (told W t)) bare
 
 -- Events beside all code.
@@ -155,7 +155,7 @@ bare-member : (W : World) (t r k : ℕ) → IsBare W → IsBare (after_member W 
 bare-member W t r k bare =
     let parent = (region_at W r).head.task in
     let W1 = task_made W parent r kind.Implicit (member_code (task_at W parent).code) in
-    let W2 = started W1 k in
+    let W2 = with_started_task W1 k in
     bare-head (taken_up W2 t k) r _
     (bare-taken_up W2 t k (bare-started W1 k (bare-task_made W parent r kind.Implicit (member_code (task_at W parent).code) bare))) refl
 
@@ -164,12 +164,12 @@ unfolding effect_of
 bare-beside W t event.ThreadBegin bare = bare
 bare-beside W t event.InitialTaskBegin bare =
     let up = taken_up W t INITIAL_TASK in
-    bare-head (started up INITIAL_TASK) IMPLICIT_REGION _ (bare-started up INITIAL_TASK (bare-taken_up W t INITIAL_TASK bare)) refl
-bare-beside W t event.InitialTaskEnd bare = bare-finished (popped W t) INITIAL_TASK bare
+    bare-head (with_started_task up INITIAL_TASK) IMPLICIT_REGION _ (bare-started up INITIAL_TASK (bare-taken_up W t INITIAL_TASK bare)) refl
+bare-beside W t event.InitialTaskEnd bare = bare-finished (without_current_task W t) INITIAL_TASK bare
 bare-beside W t (event.MemberBegin r k) bare = bare-member W t r k bare
-bare-beside W t (event.MemberEnd r k) bare = bare-code (finished (popped W t) k) k blank_task (bare-finished (popped W t) k bare)
+bare-beside W t (event.MemberEnd r k) bare = bare-code (with_finished_task (without_current_task W t) k) k blank_task (bare-finished (without_current_task W t) k bare)
 bare-beside W t (event.TaskBegin prior task) bare = bare-started (taken_up W t task) task (bare-taken_up W t task bare)
-bare-beside W t (event.TaskEnd task) bare = bare-code (popped W t) task blank_task bare
+bare-beside W t (event.TaskEnd task) bare = bare-code (without_current_task W t) task blank_task bare
 bare-beside W t (event.Dispatch share) bare = bare
 bare-beside W t other bare = bare
 
@@ -188,7 +188,7 @@ bare-at_back W t (event.MemberEnd r k) bare = bare-head W r _ bare refl
 bare-at_back W t (event.TaskCreate task undeferred codeptr) bare = bare-created W t task undeferred bare
 bare-at_back W t (event.TaskEnd task) bare = bare-finished W task bare
 bare-at_back W t (event.Sync which stage.WaitBegin codeptr) bare =
-    bare-either (begun W (current_region W t) (current_index W t)) W (is_barrier which) (bare-team W (current_region W t) _ bare) bare
+    bare-either (with_wait_begun W (current_region W t) (current_index W t)) W (is_barrier which) (bare-team W (current_region W t) _ bare) bare
 bare-at_back W t other bare = bare
 
 -- What a tool stores: the word of what was made, and so none at place 0.

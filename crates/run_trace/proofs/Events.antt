@@ -13,6 +13,7 @@ use Rattle.trace_format.specs.Fitting.{FitsCall}
 use Rattle.trace_format.specs.Validity.{IsAmong, IsCall}
 use Rattle.run_trace.proofs.Sensible.{HasNulls, IsSensible}
 use Rattle.run_trace.proofs.Arguments.{stands}
+use Rattle.run_trace.proofs.Fits.{has-fit}
 use Rattle.run_trace.proofs.States.{known}
 use Rattle.run_trace.proofs.Told.{sensible}
 
@@ -20,7 +21,7 @@ pub events-sensible : (run : Run) (history : List Entry) (t : ℕ) (event : Even
 events-sensible run history t event some legal happens = sensible run history t event some happens
 
 pub call-stands : (W : World) (t : ℕ) (event : Event) → HasNulls W → IsSensible W event → FitsCall (call_of W t event) → IsCall (call_of W t event)
-call-stands W t event nulls of_event fits = stands W t nulls event of_event fits
+call-stands W t event nulls of_event fits = stands W t nulls event of_event (has-fit (call_of W t event) fits)
 
 pub state-known : (W : World) (t : ℕ) (event : Event) → IsAmong states (state_of W t event)
 state-known W t event = known W t event

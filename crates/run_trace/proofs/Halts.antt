@@ -7,7 +7,7 @@ use Rattle.c_model.specs.declared.point.Point.TheVariants as point
 use Rattle.c_model.specs.declared.point.SyncKind.{SyncKind}
 use Rattle.c_model.specs.declared.point.SyncStage.{SyncStage}
 use Rattle.c_model.specs.declared.point.SyncStage.TheVariants as stage
-use Rattle.c_model.specs.Known.{IsKnown, IsLimit}
+use Rattle.c_model.specs.TrapsAndLimits.{IsKnown, IsLimit}
 use Rattle.c_model.specs.Step.{silent}
 use Rattle.c_model.specs.Task.{Moment, Outcome as Code_outcome, Task as Code}
 use Rattle.c_model.specs.Task.Outcome.{Asks, Ends, Limits, Occurs, StepsTo, Traps}
@@ -20,7 +20,7 @@ use Rattle.sync_objects.specs.declared.lock_fault.LockFault.{LockFault}
 use Rattle.sync_objects.specs.declared.lock_fault.LockFault.TheVariants as fault
 use Rattle.omp_model.specs.declared.limits.TheConstants.{NESTING, STACK_LIMIT, STEPS, STEPS_OF_A_TURN, TEAM_SIZE, TURNS, TURN_LIMIT}
 use Rattle.omp_model.specs.declared.event.Arrival.{Arrival}
-use Rattle.omp_model.specs.declared.event.Arrival.TheVariants.{Comes, Meets, Steps, Waits}
+use Rattle.omp_model.specs.declared.event.Arrival.TheVariants.{CodeEvent, RuntimeEvent, Steps, Waits}
 use Rattle.omp_model.specs.declared.event.Event.{Event}
 use Rattle.omp_model.specs.declared.event.Event.TheVariants as event
 use Rattle.omp_model.specs.declared.event.Halt.{Halt}
@@ -33,10 +33,10 @@ use Rattle.omp_model.specs.declared.history.Entry.{Entry}
 use Rattle.omp_model.specs.State.{Run, State, World, first, thread_at}
 use Rattle.omp_model.specs.Members.{current, is_explicit_task, moment_of, view_of}
 use Rattle.omp_model.specs.Gates.{arrival, is_barrier}
-use Rattle.omp_model.specs.Changes.{gone_past}
+use Rattle.omp_model.specs.Changes.{with_masked_skipped}
 use Rattle.omp_model.specs.Silent.{Goes, Silence, Stops, silence_of, silent_step}
-use Rattle.omp_model.specs.Going.{Going, Halts, Happens, Nothing, acquire_fault, barrier_met, effect_of, fault_of, fault_of_meeting, fault_of_point, first_fault, full_fault, going_beside, going_by, going_in_code, lock_fault, meeting_at, meeting_fault, stack_fault, sync_fault, task_fault, told, trap_if, unless}
-use Rattle.omp_model.specs.Turn.{Turn, Walk, after_steps, after_walk, counted, going_past, halted, stepped, turn, unlimited, walk, walk_by, walk_on, walked, with_going, without_event}
+use Rattle.omp_model.specs.EventEffects.{Going, Halts, Happens, Nothing, acquire_fault, barrier_met, effect_of, fault_of, fault_of_meeting, fault_of_point, first_fault, full_fault, go_of_runtime, going_by, go_of_code, lock_fault, meeting_at, meeting_fault, stack_fault, sync_fault, task_fault, told, trap_if, unless}
+use Rattle.omp_model.specs.Turn.{Turn, Walk, after_steps, after_walk, counted, state_past_masked, halted, stepped, turn, unlimited, walk, walk_by, walk_on, walked, with_going, without_event}
 use Rattle.omp_model.specs.Legal.{Legal, after, does}
 use Rattle.omp_model.proofs.Recording.{put_all-halt}
 use Rattle.omp_model.proofs.Turning.{of-entries}
@@ -161,11 +161,11 @@ by-known run W t now (Ends number) known = tt
 by-known run W t now (Traps trap) known = (known.0, omega (arith, known.1))
 by-known run W t now (Limits limit) known = limit-known limit known
 
-in_code-known : (run : Run) (W : World) (t : ℕ) → KnownGoing (going_in_code run W t)
-unfolding going_in_code
+in_code-known : (run : Run) (W : World) (t : ℕ) → KnownGoing (go_of_code run W t)
+unfolding go_of_code
 in_code-known run W t = by-known run W t (told W t) (silent run.program (view_of W t) (told W t)) (known_silent run.program (view_of W t) (told W t))
 
-beside-known : (W : World) (t : ℕ) (which : Event) → KnownGoing (going_beside W t which)
+beside-known : (W : World) (t : ℕ) (which : Event) → KnownGoing (go_of_runtime W t which)
 beside-known W t which = unless-known (fault_of W t which) which (effect_of W t which) (event-known W t which)
 
 -- A turn.
@@ -175,9 +175,9 @@ by-walk-known S made (Goes after) more known each = each after
 by-walk-known S made (Stops halt) more known each = known
 
 step-known : (run : Run) (S : State) (t made : ℕ) (over : Bool) (more : World → Walk) → ((W : World) → KnownIfAny (more W).stop) →
-    KnownIfAny (if over then walked S made (Some (Limit STEPS)) else walk_by (going_past S t) made (silent_step run S.world t) more).stop
+    KnownIfAny (if over then walked S made (Some (Limit STEPS)) else walk_by (state_past_masked S t) made (silent_step run S.world t) more).stop
 step-known run S t made true more each = (omega arith, omega arith)
-step-known run S t made false more each = by-walk-known (going_past S t) made (silent_step run S.world t) more (silence-known run S.world t) each
+step-known run S t made false more each = by-walk-known (state_past_masked S t) made (silent_step run S.world t) more (silence-known run S.world t) each
 
 on-walk-known : (run : Run) (S : State) (t made : ℕ) (next : Arrival) (more : World → Walk) → ((W : World) → KnownIfAny (more W).stop) → KnownIfAny (walk_on run S t made next more).stop
 on-walk-known run S t made Steps more each = step-known run S t made (nat_le run.steps S.steps) more each
@@ -201,8 +201,8 @@ going-known S made t (Halts halt) known = known
 steps-known : (run : Run) (S : State) (made t : ℕ) (next : Arrival) → KnownOutcome (after_steps run S made t next).outcome
 steps-known run S made t Waits = without-known S made
 steps-known run S made t Steps = without-known S made
-steps-known run S made t Comes = going-known (going_past S t) made t (going_in_code run (gone_past S.world t) t) (in_code-known run (gone_past S.world t) t)
-steps-known run S made t (Meets event) = going-known S made t (going_beside S.world t event) (beside-known S.world t event)
+steps-known run S made t CodeEvent = going-known (state_past_masked S t) made t (go_of_code run (with_masked_skipped S.world t) t) (in_code-known run (with_masked_skipped S.world t) t)
+steps-known run S made t (RuntimeEvent event) = going-known S made t (go_of_runtime S.world t event) (beside-known S.world t event)
 
 stop-known : (run : Run) (it : Walk) (t : ℕ) (stop : Option Halt) → KnownIfAny stop → KnownOutcome (after_walk run it t stop).outcome
 stop-known run it t (Some halt) known = known

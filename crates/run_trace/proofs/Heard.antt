@@ -18,7 +18,7 @@ use Rattle.omp_model.specs.Calls.{call_of, callback_of}
 use Rattle.omp_model.specs.Gates.{arrival}
 use Rattle.omp_model.specs.Heard.{has_back, heard_at, heard_event, heard_from, heard_outcome, stores_in}
 use Rattle.omp_model.specs.Legal.{AllowsFrom, Legal, after, after_from, entered, may}
-use Rattle.omp_model.specs.Made.{IsThread}
+use Rattle.omp_model.specs.MadeWorld.{IsThread}
 use Rattle.omp_model.specs.Records.{record_of, records_of}
 use Rattle.omp_model.specs.Snapshots.{snap_of}
 use Rattle.omp_model.specs.Turn.{enabled, goes_on, turn}

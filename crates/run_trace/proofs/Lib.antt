@@ -2,6 +2,7 @@ pub mod Sensible
 mod Bare
 pub mod Nulls
 pub mod States
+pub mod Fits
 pub mod Arguments
 pub mod Released
 pub mod Shares

@@ -13,7 +13,7 @@ use Rattle.omp_model.specs.declared.history.What.TheVariants.{Go, Put, Back}
 use Rattle.omp_model.specs.declared.history.Entry.{Entry}
 use Rattle.omp_model.specs.State.{Run, State, World, first, pending_at}
 use Rattle.omp_model.proofs.Alike.{QuietWorld}
-use Rattle.omp_model.specs.Going.{effect_of, fault_of}
+use Rattle.omp_model.specs.EventEffects.{effect_of, fault_of}
 use Rattle.omp_model.specs.Words.{null_word, is_made}
 use Rattle.omp_model.specs.Turn.{turn}
 use Rattle.omp_model.specs.Legal.{AllowsFrom, Legal, after, after_from, back_from, does, entered, may, may_put, put_from}

@@ -20,7 +20,7 @@ use Rattle.c_model.specs.declared.point.Target.{Target}
 use Rattle.c_model.specs.declared.point.Target.TheVariants as target
 use Rattle.c_model.specs.declared.view.View.{View}
 use Rattle.c_model.specs.Program.{place_of}
-use Rattle.c_model.specs.Coming.{scope_of, value_here, with_result}
+use Rattle.c_model.specs.StepOutcomes.{scope_of, value_here, with_result}
 use Rattle.c_model.specs.Value.{cell_of, is_zero}
 use Rattle.c_model.specs.Calls.{begin_call, begin_lock_call, begin_return_of, begin_right}
 use Rattle.c_model.specs.Clauses.{condition_of, requested_threads}
@@ -28,7 +28,7 @@ use Rattle.c_model.specs.Constructs.{begin_loop, begin_parallel, begin_task, val
 use Rattle.c_model.specs.Loops.{loop_of}
 use Rattle.c_model.proofs.Fitting.{Fits}
 use Rattle.c_model.specs.Step.{begin_construct, begin_inside, begin_standalone, begin_statement, items_from_next, silent, step_at, step_of}
-use Rattle.c_model.specs.Task.{Here, Item, Moment, Outcome}
+use Rattle.c_model.specs.Task.{StepStart, Item, Moment, Outcome}
 use Rattle.c_model.specs.Task.Item.{Start, Initialise, Forked, Inside, EndWork, EndMasked, Sync, Acquire, Release}
 use Rattle.c_model.specs.Task.Outcome.{Occurs, Limits}
 use Rattle.c_model.proofs.Standing.{fits-call, fits-item, fits-return, fits-statement}
@@ -52,15 +52,15 @@ of-result : {A : Type 0} (result : Result A ℕ) (next : A → Outcome) → ((a 
 of-result (Ok a) next each = each a
 of-result (Err trap) next each = tt
 
-of-right : (kind : NodeKind) (here : Here) (call : Tree) (env : List Entry) (to : Target) → ReleasesNoTest (begin_right kind here call env to)
+of-right : (kind : NodeKind) (here : StepStart) (call : Tree) (env : List Entry) (to : Target) → ReleasesNoTest (begin_right kind here call env to)
 of-right node.TestLock here call env to = tt
 of-right other here call env to = quiet (begin_call here call env to) (fits-call here call env to)
 
-of-return : (kind : NodeKind) (here : Here) (right : Tree) → ReleasesNoTest (begin_return_of kind here right)
+of-return : (kind : NodeKind) (here : StepStart) (right : Tree) → ReleasesNoTest (begin_return_of kind here right)
 of-return node.TestLock here right = tt
 of-return other here right = quiet (begin_return_of other here right) (fits-return other here right)
 
-of-lock : (which : LockCall) (here : Here) (tree : Tree) → ReleasesNoTest (begin_lock_call which here tree)
+of-lock : (which : LockCall) (here : StepStart) (tree : Tree) → ReleasesNoTest (begin_lock_call which here tree)
 of-lock lock.Init here tree = tt
 of-lock lock.Destroy here tree = tt
 of-lock lock.Set here tree = tt
@@ -70,10 +70,10 @@ of-standalone : (which : Standalone) (tree : Tree) → ReleasesNoTest (begin_sta
 of-standalone standalone.Barrier tree = tt
 of-standalone standalone.Taskwait tree = tt
 
-of-parallel : (here : Here) (tree : Tree) → ReleasesNoTest (begin_parallel here tree)
+of-parallel : (here : StepStart) (tree : Tree) → ReleasesNoTest (begin_parallel here tree)
 of-parallel here tree = of-result (value_or (pos here.view.max) here (requested_threads tree)) _ (λ number. tt)
 
-of-loop : (here : Here) (tree : Tree) → ReleasesNoTest (begin_loop here tree)
+of-loop : (here : StepStart) (tree : Tree) → ReleasesNoTest (begin_loop here tree)
 of-loop here tree =
     of-result (value_here here (loop_of tree).start) _ (λ start. of-result (value_here here (loop_of tree).end) _ (λ end. tt))
 
@@ -81,10 +81,10 @@ of-creates : (full : Bool) (tree : Tree) (number : ℤ) → ReleasesNoTest (if f
 of-creates true tree number = tt
 of-creates false tree number = tt
 
-of-task : (here : Here) (tree : Tree) → ReleasesNoTest (begin_task here tree)
+of-task : (here : StepStart) (tree : Tree) → ReleasesNoTest (begin_task here tree)
 of-task here tree = of-result (value_or (pos 1) here (condition_of tree)) _ (λ number. of-creates _ tree number)
 
-of-construct : (which : Directive) (here : Here) (tree : Tree) → ReleasesNoTest (begin_construct which here tree)
+of-construct : (which : Directive) (here : StepStart) (tree : Tree) → ReleasesNoTest (begin_construct which here tree)
 of-construct directive.Parallel here tree = of-parallel here tree
 of-construct directive.For here tree = of-loop here tree
 of-construct directive.Sections here tree = tt
@@ -96,12 +96,12 @@ of-construct directive.Master here tree = tt
 of-construct directive.Critical here tree = tt
 of-construct directive.Task here tree = of-task here tree
 
-of-inside : (kind : NodeKind) (here : Here) (tree : Tree) → ReleasesNoTest (begin_inside kind here tree)
+of-inside : (kind : NodeKind) (here : StepStart) (tree : Tree) → ReleasesNoTest (begin_inside kind here tree)
 of-inside (node.Construct directive.ParallelFor) here tree = of-loop here tree
 of-inside (node.Construct directive.ParallelSections) here tree = tt
 of-inside other here tree = tt
 
-of-statement : (kind : NodeKind) (here : Here) (tree : Tree) → ReleasesNoTest (begin_statement kind here tree)
+of-statement : (kind : NodeKind) (here : StepStart) (tree : Tree) → ReleasesNoTest (begin_statement kind here tree)
 of-statement node.Return here tree = of-return (kind_of (child_at tree 0)) here (child_at tree 0)
 of-statement node.SetCall here tree =
     of-result (cell_of (scope_of here) (child_at tree 0)) _ (λ cell.
@@ -112,7 +112,7 @@ of-statement (node.Standalone which) here tree = of-standalone which tree
 of-statement (node.Construct which) here tree = of-construct which here tree
 of-statement other here tree = quiet (begin_statement other here tree) (fits-statement other here tree)
 
-of-item : (item : Item) (here : Here) → ReleasesNoTest (step_of item here)
+of-item : (item : Item) (here : StepStart) → ReleasesNoTest (step_of item here)
 of-item (Start tree) here = of-statement (kind_of tree) here tree
 of-item (Initialise tree entry) here =
     of-right (kind_of (child_at tree 0)) here (child_at tree 0) (here.task.env ++ entry ∷ []) (target.Cell entry.first)

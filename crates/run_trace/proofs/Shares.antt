@@ -14,10 +14,10 @@ use Rattle.omp_model.specs.declared.history.What.TheVariants.{Go, Put, Back}
 use Rattle.omp_model.specs.declared.parts.ThreadStage.TheVariants as thread_stage
 use Rattle.omp_model.specs.State.{Run, State, Thread, World, first, first_world, pending_at, thread_at, unmade}
 use Rattle.omp_model.proofs.Alike.{HasSomeShare, QuietWorld}
-use Rattle.omp_model.specs.Changes.{summoned}
+use Rattle.omp_model.specs.Changes.{with_invitation}
 use Rattle.omp_model.specs.Conditions.{AreOrderly, PendingOrderly}
 use Rattle.omp_model.specs.Legal.{after, back_from, does, put_from}
-use Rattle.omp_model.specs.Made.{IsMadeWorld, MadePending}
+use Rattle.omp_model.specs.MadeWorld.{IsMadeWorld, MadePending}
 use Rattle.omp_model.proofs.Touching.{is_summoned, thread_after, thread_back}
 use Rattle.omp_model.specs.Turn.{turn}
 use Rattle.omp_model.proofs.AlikeWorlds.{made-alike, quiet-turn, still-alike, taken-stored}
@@ -70,7 +70,7 @@ either-taken false one other same = refl
 
 back-taken : (W : World) (t : ℕ) (e : Event) (u : ℕ) → (thread_back W t e u).taken ≡ (thread_at W u).taken
 back-taken W t ThreadEnd u = either-taken (u == t) (record (thread_at W u) { stage = thread_stage.Ended }) (thread_at W u) refl
-back-taken W t (ParallelBegin r requested codeptr) u = either-taken (is_summoned W t r u) (summoned r (thread_at W u)) (thread_at W u) refl
+back-taken W t (ParallelBegin r requested codeptr) u = either-taken (is_summoned W t r u) (with_invitation r (thread_at W u)) (thread_at W u) refl
 back-taken W t (TaskCreate task true codeptr) u = either-taken (u == t) (record (thread_at W u) { undeferred = task }) (thread_at W u) refl
 back-taken W t other u = refl
 

@@ -21,9 +21,9 @@ use Rattle.omp_model.specs.declared.history.Entry.{Entry}
 use Rattle.omp_model.specs.State.{Run, World}
 use Rattle.omp_model.proofs.Alike.{HasSomeShare, QuietWorld}
 use Rattle.omp_model.specs.Members.{current, current_region, view_of}
-use Rattle.omp_model.specs.Going.{Going, Happens, event_of_point, fault_of_point, going_by, going_in_code, effect_of_point, kind_of_task, past_point, told, unless, work_begin}
+use Rattle.omp_model.specs.EventEffects.{Going, Happens, event_of_point, fault_of_point, going_by, go_of_code, effect_of_point, kind_of_task, past_point, told, unless, work_begin}
 use Rattle.omp_model.specs.Legal.{after}
-use Rattle.omp_model.specs.Made.{IsMadeWorld}
+use Rattle.omp_model.specs.MadeWorld.{IsMadeWorld}
 use Rattle.omp_model.specs.Turn.{turn}
 use Rattle.omp_model.proofs.MadeWords.{added-last}
 use Rattle.omp_model.proofs.AlikeWorlds.{made-alike, quiet-turn}
@@ -80,8 +80,8 @@ outcome-sensible run W t now (Occurs what tree) made one =
     (point-sensible run W t now what made one)
 outcome-sensible run W t now other made one = tt
 
-in_code-sensible : (run : Run) (W : World) (t : ℕ) → IsMadeWorld W → SensibleGoing (going_in_code run W t)
-unfolding going_in_code
+in_code-sensible : (run : Run) (W : World) (t : ℕ) → IsMadeWorld W → SensibleGoing (go_of_code run W t)
+unfolding go_of_code
 in_code-sensible run W t made =
     outcome-sensible run W t (told W t) (silent run.program (view_of W t) (told W t)) made (releases-no-test run.program (view_of W t) (told W t))
 

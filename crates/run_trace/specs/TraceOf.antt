@@ -7,8 +7,6 @@ use Rattle.omp_model.specs.declared.cause.Cause.TheVariants.{Done, Returned, Tra
 use Rattle.omp_model.specs.declared.history.Entry.{Entry}
 use Rattle.omp_model.specs.State.{Run}
 use Rattle.omp_model.specs.Records.{records_of}
-use Rattle.trace_format.specs.declared.trace.EndMark.{EndMark}
-use Rattle.trace_format.specs.declared.trace.Header.{Header}
 use Rattle.trace_format.specs.declared.trace.Trace.{Trace}
 use Rattle.trace_format.specs.declared.trace.TheConstants.{VERSION, RECORDED}
 

@@ -16,7 +16,8 @@ use omp_model::Cause;
 
 /// A legal history of 1 to 16 threads with the callbacks of the profile registered, that ends in a cause, comes to a trace: its sequence numbers rise
 /// below the limit of traces, each call has only arguments of the format, and each trap and limit has a number of the format. What is supposed is that
-/// the numbers of the records fit their fields, as those of a run do by their types.
+/// the numbers of the records fit their fields, as those of a run do by their types: each argument of each callback, and also those that have
+/// only some values, as kinds, endpoints, flags and statuses.
 pub fn runs_have_traces()
     ensures { (run : Run) (history : List Entry) (cause : Cause) → 1 ≤ run.threads → run.threads ≤ 16 →
         run.mask ≡ PROFILE_MASK →

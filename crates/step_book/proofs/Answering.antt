@@ -3,13 +3,13 @@ use Rattle.std.proofs.Common.{◌≡◌, List, [], Result, Ok, Err, IfOk, OnErr}
 use Rattle.omp_model.specs.declared.history.Entry.{Entry}
 use Rattle.omp_model.specs.State.{Run}
 use Rattle.step_book.specs.declared.step.Step.{Step}
-use Rattle.step_book.specs.Sharing.{Answers, Goes, Grows, Sight}
+use Rattle.step_book.specs.Sharing.{AnswersThen, VisitsAfterOthers, AddsHold, PassView}
 
-module _ {E : Type 0} (before answered after : Sight) (entries : List Entry) (grows : Grows before answered entries) (same : answered.ended ≡ before.ended) where
-  pub answers-ok : (run : Run) (result : Result Step E) → IfOk result (λ step. Goes run answered step after) → IfOk result (λ step. Answers before entries (λ answered. Goes run answered step after))
+module _ {E : Type 0} (before answered after : PassView) (entries : List Entry) (grows : AddsHold before answered entries) (same : answered.ended ≡ before.ended) where
+  pub answers-ok : (run : Run) (result : Result Step E) → IfOk result (λ step. VisitsAfterOthers run answered step after) → IfOk result (λ step. AnswersThen before entries (λ answered. VisitsAfterOthers run answered step after))
   answers-ok run (Ok step) goes = record { answered = answered; grows = grows; ended = same; next = goes }
   answers-ok run (Err e) goes = tt
 
-  pub answers-memory : (result : Result Step E) → OnErr result (Grows answered after []) → OnErr result (Answers before entries (λ answered. Grows answered after []))
+  pub answers-memory : (result : Result Step E) → OnErr result (AddsHold answered after []) → OnErr result (AnswersThen before entries (λ answered. AddsHold answered after []))
   answers-memory (Ok step) none = tt
   answers-memory (Err e) none = record { answered = answered; grows = grows; ended = same; next = none }

@@ -11,7 +11,7 @@ use Rattle.omp_model.specs.declared.history.What.{What}
 use Rattle.omp_model.specs.declared.history.What.TheVariants.{Go, Put, Back}
 use Rattle.omp_model.specs.State.{Run, State, World, pending_at}
 use Rattle.omp_model.specs.Legal.{AllowsFrom, after_from, back_from, does, entered, put_from}
-use Rattle.omp_model.specs.Made.{IsMadeState, MadePending}
+use Rattle.omp_model.specs.MadeWorld.{IsMadeState, MadePending}
 use Rattle.omp_model.specs.Turn.{turn}
 use Rattle.omp_model.specs.Words.{is_made, is_made_identity}
 use Rattle.omp_model.proofs.Later.{Later}

@@ -2,7 +2,7 @@
 use Rattle.std.proofs.Common.{◌≡◌, ℕ, ◌+◌, ◌-◌, ◌<◌, List, [], ◌∷◌, ◌++◌, length, get_or, sym, refl, ap, ◌∙◌, append-nil, length-append, arith}
 use Rattle.std.proofs.lemmas.List.{get_or-append-add}
 use Rattle.step_book.specs.declared.hold.Hold.{Hold}
-use Rattle.step_book.specs.Rule.{AllBelow, NoneBy, Begins}
+use Rattle.step_book.specs.Rule.{AllBelow, NoneBy, IsBeginning}
 use Rattle.step_book.specs.Steps.{hold_by}
 
 -- a pass of the last hold's thread has seen all
@@ -22,7 +22,7 @@ no_length [] none = refl
 no_length (hold ∷ holds) none = absurd (omega arith)
 
 -- where the passes of all threads begin the list of all holds, and beyond each no hold is of its thread, one has seen all
-pub longest : (made : ℕ) (seen : ℕ → List Hold) (all : List Hold) → 0 < made → AllBelow made all → ((k : ℕ) → k < made → Begins k (seen k) all) → (k : ℕ) × (k < made) × (seen k ≡ all)
+pub longest : (made : ℕ) (seen : ℕ → List Hold) (all : List Hold) → 0 < made → AllBelow made all → ((k : ℕ) → k < made → IsBeginning k (seen k) all) → (k : ℕ) × (k < made) × (seen k ≡ all)
 longest made seen [] some below begins =
     let b = begins 0 some in
     let none : length (seen 0) ≡ 0 = omega (arith, ap (λ (hs : List Hold). length hs) b.whole, length-append (seen 0) b.rest) in

@@ -25,7 +25,7 @@ use Rattle.omp_model.proofs.Turns.{Leaves, leaves-turn}
 use Rattle.step_book.specs.declared.hold.Hold.{Hold}
 use Rattle.step_book.specs.declared.step.Step.TheVariants.{Told, Quiet}
 use Rattle.step_book.specs.Owing.{NotBy, Owes}
-use Rattle.step_book.specs.Pages.{Pages, state_of}
+use Rattle.step_book.specs.BookView.{BookView, state_of}
 use Rattle.step_book.specs.Rule.{NoneBy, entries_of}
 use Rattle.step_book.specs.Sharing.{AllBy, AreOwn}
 use Rattle.step_book.specs.Visit.{Visit, turn_visit, visit, visit_by, visit_of_outcome}
@@ -93,12 +93,12 @@ outcome-own mask seq t W (outcome.Happens event) =
     event-own mask seq t (is_registered mask (callback_of event)) (record { step = Told seq (call_of W t event) (snap_of W t event); added = go_at t ∷ [] }) (record { step = Quiet; added = go_at t ∷ back_at t ∷ [] }) (refl, tt) (refl, (refl, tt))
 outcome-own mask seq t W (outcome.Halts halt) = (refl, tt)
 
-by-own : (book : Pages) (t : ℕ) (cause : Option Cause) → AllBy t (visit_by book t cause).added
+by-own : (book : BookView) (t : ℕ) (cause : Option Cause) → AllBy t (visit_by book t cause).added
 by-own book t (Some cause) = tt
 by-own book t None =
     event-own 0 0 t (enabled (state_of book) t) (turn_visit book t) _ (outcome-own book.run.mask (length book.history) t (turn book.run (state_of book) t).state.world (turn book.run (state_of book) t).outcome) tt
 
-pub visit-own : (book : Pages) (t : ℕ) → AllBy t (visit book t).added
+pub visit-own : (book : BookView) (t : ℕ) → AllBy t (visit book t).added
 visit-own book t = event-own 0 0 t book.ended _ (visit_by book t (cause_of book.run book.history)) tt (by-own book t (cause_of book.run book.history))
 
 pub reply-own : (t : ℕ) (stores : List Stored) → AllBy t (event_reply t stores)

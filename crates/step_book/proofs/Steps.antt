@@ -9,22 +9,22 @@ use Rattle.atomic_table.specs.Table.{Me, keeps, opening, Allows, Splits, Joins}
 use Rattle.atomic_table.proofs.Lists.{at_set, set_again, set_else}
 use Rattle.omp_model.specs.declared.history.Entry.{Entry}
 use Rattle.step_book.specs.declared.hold.Hold.{Hold}
-use Rattle.step_book.specs.declared.view.Held.{Held}
-use Rattle.step_book.specs.declared.view.View.{View}
-use Rattle.step_book.specs.declared.view.View.TheVariants.{Spent, OfPass, OfBook}
-use Rattle.step_book.specs.Rule.{entries_of, MayHold, MayKnow, thread_in, Knows, IsSeated, IsOneHistory, TableState, HasOneHistory}
+use Rattle.step_book.specs.declared.view.TakenPass.{TakenPass}
+use Rattle.step_book.specs.declared.view.SeatView.{SeatView}
+use Rattle.step_book.specs.declared.view.SeatView.TheVariants.{Spent, OfPass, OfBook}
+use Rattle.step_book.specs.Rule.{entries_of, MayHold, MayKnow, thread_in, SeatKnows, IsSeated, IsOneHistory, TableState, HasOneHistory}
 use Rattle.step_book.specs.Steps.{first_view, one_more_pass, next_pass, with_pass, pass_of, hold_by, with_hold, HasRoom, without_pass, held_pass, BeginsHeld, LookTells}
 use Rattle.step_book.proofs.Lists.{set_either}
 use Rattle.step_book.proofs.Seated.{seated_set, seated_more, free_as, begins_whole, begins_none, may_know-more, may_know-made, may_hold-made, may_know-below}
 
 -- where the book knows this, these are all holds and so many passes were made
-as_book : (table : TableState) (seat : ℕ) (holds : List Hold) (made : ℕ) (held : Option Held) → HasOneHistory table → Knows table.views seat (OfBook holds made held) → IsOneHistory table.words table.views holds made
+as_book : (table : TableState) (seat : ℕ) (holds : List Hold) (made : ℕ) (held : Option TakenPass) → HasOneHistory table → SeatKnows table.views seat (OfBook holds made held) → IsOneHistory table.words table.views holds made
 as_book table seat holds made held (all, count, one) at =
     let fit = one.seated.fits seat (OfBook holds made held) at in
     subst (λ (hs : List Hold). IsOneHistory table.words table.views hs made) (sym fit.1) (subst (λ (n : ℕ). IsOneHistory table.words table.views all n) (sym fit.2) one)
 
 -- the book's seat is the first, so no other is
-not_first : (views : List View) (all : List Hold) (made seat : ℕ) (holds : List Hold) (count : ℕ) (held : Option Held) → IsSeated all made views → Knows views seat (OfBook holds count held) → (i : ℕ) → i ≢ seat → i ≢ 0
+not_first : (views : List SeatView) (all : List Hold) (made seat : ℕ) (holds : List Hold) (count : ℕ) (held : Option TakenPass) → IsSeated all made views → SeatKnows views seat (OfBook holds count held) → (i : ℕ) → i ≢ seat → i ≢ 0
 not_first views all made seat holds count held seated at i other first = other (first ∙ sym (seated.fits seat (OfBook holds count held) at).0)
 
 -- the table is made
@@ -40,7 +40,7 @@ opens = (
 )
 
 -- a seat more, with a spent view
-spent_more : (words : List ℕ) (views : List View) (all : List Hold) (made : ℕ) → IsOneHistory words views all made → IsOneHistory words (views ++ Spent ∷ []) all made
+spent_more : (words : List ℕ) (views : List SeatView) (all : List Hold) (made : ℕ) → IsOneHistory words views all made → IsOneHistory words (views ++ Spent ∷ []) all made
 spent_more words views all made one =
     record {
       count = one.count;
@@ -48,13 +48,13 @@ spent_more words views all made one =
       below = one.below;
     }
 
-same_more : (table : TableState) (seat : ℕ) (v : View) → HasOneHistory table → Knows table.views seat v → HasOneHistory (record table { views = set table.views seat v ++ Spent ∷ [] })
+same_more : (table : TableState) (seat : ℕ) (v : SeatView) → HasOneHistory table → SeatKnows table.views seat v → HasOneHistory (record table { views = set table.views seat v ++ Spent ∷ [] })
 same_more table seat v (all, made, one) at =
-    (all, made, subst (λ (views : List View). IsOneHistory table.words (views ++ Spent ∷ []) all made) (sym (set_again table.views seat v at)) (spent_more table.words table.views all made one))
+    (all, made, subst (λ (views : List SeatView). IsOneHistory table.words (views ++ Spent ∷ []) all made) (sym (set_again table.views seat v at)) (spent_more table.words table.views all made one))
 
 -- after the book has made one more pass, each other pass still has a number below that of the passes made before
-all_below : (views : List View) (seat : ℕ) (holds : List Hold) (made : ℕ) (held : Option Held) → IsSeated holds made views → Knows views seat (OfBook holds made held)
-    → (i : ℕ) (u : View) (t : ℕ) → Knows (set views seat (OfBook holds (made + 1) held)) i u → thread_in u ≡ Some t → t < made
+all_below : (views : List SeatView) (seat : ℕ) (holds : List Hold) (made : ℕ) (held : Option TakenPass) → IsSeated holds made views → SeatKnows views seat (OfBook holds made held)
+    → (i : ℕ) (u : SeatView) (t : ℕ) → SeatKnows (set views seat (OfBook holds (made + 1) held)) i u → thread_in u ≡ Some t → t < made
 all_below views seat holds made held seated at i u t there p =
     ⊎_elim
     (λ here. may_know-below holds made seat (OfBook holds made held) t (seated.fits seat (OfBook holds made held) at) (subst (λ x. thread_in x ≡ Some t) (sym here.1) p))
@@ -62,7 +62,7 @@ all_below views seat holds made held seated at i u t there p =
     (at_set views seat i (OfBook holds (made + 1) held) u there)
 
 -- a pass is made for the next thread
-makes-book : (words : List ℕ) (views : List View) (seat : ℕ) (holds : List Hold) (made : ℕ) (held : Option Held) → IsOneHistory words views holds made → Knows views seat (OfBook holds made held) → IsOneHistory words (set views seat (OfBook holds (made + 1) held) ++ OfPass made [] ∷ []) holds (made + 1)
+makes-book : (words : List ℕ) (views : List SeatView) (seat : ℕ) (holds : List Hold) (made : ℕ) (held : Option TakenPass) → IsOneHistory words views holds made → SeatKnows views seat (OfBook holds made held) → IsOneHistory words (set views seat (OfBook holds (made + 1) held) ++ OfPass made [] ∷ []) holds (made + 1)
 makes-book words views seat holds made held one at =
     let v = OfBook holds made held in
     let w = OfBook holds (made + 1) held in
@@ -80,13 +80,13 @@ makes-book words views seat holds made held one at =
       below = All-weaker (λ (h : Hold). h.thread < made) (λ (h : Hold). h.thread < made + 1) (λ h less. omega (arith, less)) holds one.below;
     }
 
-pub makes : (seat : ℕ) (v : View) → Splits HasOneHistory seat v (one_more_pass v) (next_pass v)
+pub makes : (seat : ℕ) (v : SeatView) → Splits HasOneHistory seat v (one_more_pass v) (next_pass v)
 makes seat Spent table has at = same_more table seat Spent has at
 makes seat (OfPass thread seen) table has at = same_more table seat (OfPass thread seen) has at
 makes seat (OfBook all made held) table has at = (all, made + 1, makes-book table.words table.views seat all made held (as_book table seat all made held has at) at)
 
 -- a view is spent
-spends : (words : List ℕ) (views : List View) (all : List Hold) (made seat : ℕ) → IsOneHistory words views all made → IsOneHistory words (set views seat Spent) all made
+spends : (words : List ℕ) (views : List SeatView) (all : List Hold) (made seat : ℕ) → IsOneHistory words views all made → IsOneHistory words (set views seat Spent) all made
 spends words views all made seat one =
     record {
       count = one.count;
@@ -94,13 +94,13 @@ spends words views all made seat one =
       below = one.below;
     }
 
-same_spends : (table : TableState) (seat other : ℕ) (v : View) → HasOneHistory table → Knows table.views seat v → HasOneHistory (record table { views = set (set table.views seat v) other Spent })
+same_spends : (table : TableState) (seat other : ℕ) (v : SeatView) → HasOneHistory table → SeatKnows table.views seat v → HasOneHistory (record table { views = set (set table.views seat v) other Spent })
 same_spends table seat other v (all, made, one) at =
-    (all, made, subst (λ (views : List View). IsOneHistory table.words (set views other Spent) all made) (sym (set_again table.views seat v at)) (spends table.words table.views all made other one))
+    (all, made, subst (λ (views : List SeatView). IsOneHistory table.words (set views other Spent) all made) (sym (set_again table.views seat v at)) (spends table.words table.views all made other one))
 
 -- once a pass is spent, no seat has a pass of its thread
-none_left : (views : List View) (other : ℕ) (all : List Hold) (made thread : ℕ) (seen : List Hold) → IsSeated all made views → Knows views other (OfPass thread seen)
-    → (i : ℕ) (u : View) (t : ℕ) → Knows (set views other Spent) i u → thread_in u ≡ Some t → ¬ (Some thread ≡ Some t)
+none_left : (views : List SeatView) (other : ℕ) (all : List Hold) (made thread : ℕ) (seen : List Hold) → IsSeated all made views → SeatKnows views other (OfPass thread seen)
+    → (i : ℕ) (u : SeatView) (t : ℕ) → SeatKnows (set views other Spent) i u → thread_in u ≡ Some t → ¬ (Some thread ≡ Some t)
 none_left views other all made thread seen seated next i u t there p q =
     ⊎_elim
     (λ here. none-some t (subst (λ x. thread_in x ≡ Some t) (sym here.1) p))
@@ -108,8 +108,8 @@ none_left views other all made thread seen seated next i u t there p q =
     (at_set views other i Spent u there)
 
 -- the book takes in a pass
-takes-pass : (words : List ℕ) (views : List View) (seat other : ℕ) (all : List Hold) (made : ℕ) (held : Option Held) (thread : ℕ) (seen : List Hold)
-    → IsOneHistory words views all made → Knows views seat (OfBook all made held) → other ≢ seat → Knows views other (OfPass thread seen)
+takes-pass : (words : List ℕ) (views : List SeatView) (seat other : ℕ) (all : List Hold) (made : ℕ) (held : Option TakenPass) (thread : ℕ) (seen : List Hold)
+    → IsOneHistory words views all made → SeatKnows views seat (OfBook all made held) → other ≢ seat → SeatKnows views other (OfPass thread seen)
     → IsOneHistory words (set (set views seat (OfBook all made (Some (pass_of thread seen)))) other Spent) all made
 takes-pass words views seat other all made held thread seen one at apart next =
     let w = OfBook all made (Some (pass_of thread seen)) in
@@ -120,11 +120,11 @@ takes-pass words views seat other all made held thread seen one at apart next =
     let taken = seated_set (set views other Spent) seat w all all made made spent book (λ i u there-not there. spent.fits i u there) (λ i u t there-not there p q. free i u t there p q) in
     record {
       count = one.count;
-      seated = subst (λ (vs : List View). IsSeated all made vs) (set_either views other seat Spent w apart) taken;
+      seated = subst (λ (vs : List SeatView). IsSeated all made vs) (set_either views other seat Spent w apart) taken;
       below = one.below;
     }
 
-pub takes : (seat : ℕ) (v : View) (other : ℕ) (w : View) → Joins HasOneHistory seat v other w (with_pass v w) Spent
+pub takes : (seat : ℕ) (v : SeatView) (other : ℕ) (w : SeatView) → Joins HasOneHistory seat v other w (with_pass v w) Spent
 takes seat Spent other w table has at apart next = same_spends table seat other Spent has at
 takes seat (OfPass thread seen) other w table has at apart next = same_spends table seat other (OfPass thread seen) has at
 takes seat (OfBook all made held) other Spent table has at apart next = same_spends table seat other (OfBook all made held) has at
@@ -134,7 +134,7 @@ takes seat (OfBook all made held) other (OfPass thread seen) table has at apart 
     (all, made, takes-pass table.words table.views seat other all made held thread seen (as_book table seat all made held has at) at apart there)
 
 -- the book gives its pass back
-gives-pass : (words : List ℕ) (views : List View) (seat : ℕ) (all : List Hold) (made : ℕ) (held : Held) → IsOneHistory words views all made → Knows views seat (OfBook all made (Some held)) → IsOneHistory words (set views seat (OfBook all made None) ++ OfPass held.thread held.seen ∷ []) all made
+gives-pass : (words : List ℕ) (views : List SeatView) (seat : ℕ) (all : List Hold) (made : ℕ) (held : TakenPass) → IsOneHistory words views all made → SeatKnows views seat (OfBook all made (Some held)) → IsOneHistory words (set views seat (OfBook all made None) ++ OfPass held.thread held.seen ∷ []) all made
 gives-pass words views seat all made held one at =
     let v = OfBook all made (Some held) in
     let w = OfBook all made None in
@@ -151,7 +151,7 @@ gives-pass words views seat all made held one at =
       below = one.below;
     }
 
-pub gives : (seat : ℕ) (v : View) → Splits HasOneHistory seat v (without_pass v) (held_pass v)
+pub gives : (seat : ℕ) (v : SeatView) → Splits HasOneHistory seat v (without_pass v) (held_pass v)
 gives seat Spent table has at = same_more table seat Spent has at
 gives seat (OfPass thread seen) table has at = same_more table seat (OfPass thread seen) has at
 gives seat (OfBook all made None) table has at = same_more table seat (OfBook all made None) has at
@@ -159,11 +159,11 @@ gives seat (OfBook all made (Some held)) table has at =
     (all, made, gives-pass table.words table.views seat all made held (as_book table seat all made (Some held) has at) at)
 
 -- a look tells what the book knows
-tells-held : (all : List Hold) (made : ℕ) (held : Option Held) → MayHold all made held → BeginsHeld all held
+tells-held : (all : List Hold) (made : ℕ) (held : Option TakenPass) → MayHold all made held → BeginsHeld all held
 tells-held all made None fit = tt
 tells-held all made (Some held) fit = fit.begins
 
-tells : (table : TableState) (seat : ℕ) (v : View) → HasOneHistory table → Knows table.views seat v → LookTells v
+tells : (table : TableState) (seat : ℕ) (v : SeatView) → HasOneHistory table → SeatKnows table.views seat v → LookTells v
 tells table seat Spent has at = tt
 tells table seat (OfPass thread seen) has at = tt
 tells table seat (OfBook all made held) has at =
@@ -173,12 +173,12 @@ tells table seat (OfBook all made held) has at =
 same_word : (n : ℕ) (words : List ℕ) → words ≡ n ∷ [] → set words 0 (get_or words 0 0) ≡ words
 same_word n words is = subst (λ (ns : List ℕ). set ns 0 (get_or ns 0 0) ≡ ns) (sym is) refl
 
-same_all : (words : List ℕ) (views : List View) (all : List Hold) (made seat : ℕ) (v : View) → IsOneHistory words views all made → Knows views seat v → IsOneHistory (set words 0 (get_or words 0 0)) (set views seat v) all made
+same_all : (words : List ℕ) (views : List SeatView) (all : List Hold) (made seat : ℕ) (v : SeatView) → IsOneHistory words views all made → SeatKnows views seat v → IsOneHistory (set words 0 (get_or words 0 0)) (set views seat v) all made
 same_all words views all made seat v one at =
     subst (λ (ns : List ℕ). IsOneHistory ns (set views seat v) all made) (sym (same_word (length (entries_of all)) words one.count))
-    (subst (λ (vs : List View). IsOneHistory words vs all made) (sym (set_again views seat v at)) one)
+    (subst (λ (vs : List SeatView). IsOneHistory words vs all made) (sym (set_again views seat v at)) one)
 
-pub looks : (slots seat : ℕ) (me : Me (Unit {0}) View) → Allows HasOneHistory slots seat me 0 (λ n. n) (λ found after. (after ≡ me) × LookTells me.0)
+pub looks : (slots seat : ℕ) (me : Me (Unit {0}) SeatView) → Allows HasOneHistory slots seat me 0 (λ n. n) (λ found after. (after ≡ me) × LookTells me.0)
 looks slots seat me table has long at fits =
     (me.0, keeps, tt, (has.0, has.1, same_all table.words table.views has.0 has.1 seat me.0 has.2 at), (refl, tells table seat me.0 has at))
 
@@ -196,8 +196,8 @@ adds-count words all thread entries k count long room =
     let sum : length (entries_of all) + k ≡ after = omega (arith, long, entries-more all (hold_by thread entries)) in
     subst (λ (ns : List ℕ). set ns 0 ((get_or ns 0 0 + k) % 2 ^ 64) ≡ after ∷ []) (sym count) (ap (λ n. n ∷ []) (mod-eq_of_lt room ∙ sum))
 
-adds-hold : (words : List ℕ) (views : List View) (seat : ℕ) (all : List Hold) (made : ℕ) (held : Held) (entries : List Entry) (k : ℕ)
-    → IsOneHistory words views all made → Knows views seat (OfBook all made (Some held)) → length entries ≡ k → length (entries_of all) + k < 2 ^ 64
+adds-hold : (words : List ℕ) (views : List SeatView) (seat : ℕ) (all : List Hold) (made : ℕ) (held : TakenPass) (entries : List Entry) (k : ℕ)
+    → IsOneHistory words views all made → SeatKnows views seat (OfBook all made (Some held)) → length entries ≡ k → length (entries_of all) + k < 2 ^ 64
     → IsOneHistory (set words 0 ((get_or words 0 0 + k) % 2 ^ 64)) (set views seat (with_hold (OfBook all made (Some held)) entries)) (all ++ hold_by held.thread entries ∷ []) made
 adds-hold words views seat all made held entries k one at long room =
     let v = OfBook all made (Some held) in
@@ -207,7 +207,7 @@ adds-hold words views seat all made held entries k one at long room =
     let fit = one.seated.fits seat v at in
     let book : MayKnow more made seat w = (fit.0, refl, refl, record { below = fit.3.below; begins = begins_whole held.thread more }) in
     let elsewhere = not_first views all made seat all made (Some held) one.seated at in
-    let others = λ (i : ℕ) (u : View) (other : i ≢ seat) (there : Knows views i u). may_know-more all made i hold u (elsewhere i other) (one.seated.fits i u there) (λ p. other (one.seated.distinct i seat u v held.thread there p at refl)) in
+    let others = λ (i : ℕ) (u : SeatView) (other : i ≢ seat) (there : SeatKnows views i u). may_know-more all made i hold u (elsewhere i other) (one.seated.fits i u there) (λ p. other (one.seated.distinct i seat u v held.thread there p at refl)) in
     let free = free_as views seat v w all made one.seated at (λ t p. p) in
     record {
       count = adds-count words all held.thread entries k one.count long room;
@@ -215,7 +215,7 @@ adds-hold words views seat all made held entries k one at long room =
       below = All-push (λ (h : Hold). h.thread < made) all hold one.below fit.3.below;
     }
 
-pub adds : (slots seat : ℕ) (v : View) (out : List (ℕ × Unit {0})) (entries : List Entry) (k : ℕ) → length entries ≡ k → HasRoom v k
+pub adds : (slots seat : ℕ) (v : SeatView) (out : List (ℕ × Unit {0})) (entries : List Entry) (k : ℕ) → length entries ≡ k → HasRoom v k
     → Allows HasOneHistory slots seat (v, out) 0 (λ n. (n + k) % 2 ^ 64) (λ found after. after ≡ (with_hold v entries, out))
 adds slots seat (OfBook all made (Some held)) out entries k long room table has same at fits =
     let one = as_book table seat all made (Some held) has at in

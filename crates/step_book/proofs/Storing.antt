@@ -14,7 +14,7 @@ use Rattle.omp_model.specs.declared.history.Entry.{Entry}
 use Rattle.omp_model.specs.declared.limits.TheConstants.{STORE_LIMIT}
 use Rattle.omp_model.specs.State.{Run, State, World, first, pending_at}
 use Rattle.omp_model.specs.Legal.{after, after_from, is_told, may_put, put}
-use Rattle.omp_model.specs.Made.{IsMadeState}
+use Rattle.omp_model.specs.MadeWorld.{IsMadeState}
 use Rattle.omp_model.specs.Storing.{MayStore, back_at, event_reply, go_at, put_all, put_at, puts_at}
 use Rattle.omp_model.specs.Turn.{turn}
 use Rattle.omp_model.specs.Words.{is_made}

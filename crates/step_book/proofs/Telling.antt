@@ -17,10 +17,10 @@ use Rattle.omp_model.specs.Storing.{back_at, go_at}
 use Rattle.omp_model.specs.Turn.{turn}
 use Rattle.omp_machine.specs.declared.went.Went.{Went}
 use Rattle.omp_machine.specs.declared.went.Went.TheVariants as went
-use Rattle.omp_machine.specs.Standing.{is_call, went_after, went_of}
+use Rattle.omp_machine.specs.MachineView.{is_call, went_after, went_of}
 use Rattle.omp_machine.proofs.Telling.{IsTold, IsUntold, alone-by, told-by, untold-by}
 use Rattle.step_book.specs.declared.step.Step.TheVariants.{Told, Quiet, NotYet, Ended}
-use Rattle.step_book.specs.Pages.{Pages, state_of}
+use Rattle.step_book.specs.BookView.{BookView, state_of}
 use Rattle.step_book.specs.Visit.{Visit, turn_visit, visit_of_outcome}
 
 -- the visit that belongs to what the machine tells of a turn
@@ -40,37 +40,37 @@ visit-went run seq t after (outcome.Halts (Trap number)) = refl
 visit-went run seq t after (outcome.Halts (Limit number)) = refl
 
 -- the visit that is a turn, by what the machine tells of it
-pub turn-went : (book : Pages) (S : State) (t : ℕ) (told : Went) → after book.run book.history ≡ S → told ≡ went_of book.run S t → turn_visit book t ≡ visit_of_went (length book.history) t told
+pub turn-went : (book : BookView) (S : State) (t : ℕ) (told : Went) → after book.run book.history ≡ S → told ≡ went_of book.run S t → turn_visit book t ≡ visit_of_went (length book.history) t told
 turn-went book S t told reached is =
     rw (reached, is) (visit-went book.run (length book.history) t (turn book.run S t).state (turn book.run S t).outcome)
 
 -- the state right after the turn, and what the turn came to
-abbrev next : Pages → ℕ → State
+abbrev next : BookView → ℕ → State
 next book t = (turn book.run (state_of book) t).state
 
-abbrev came : Pages → ℕ → Outcome
+abbrev came : BookView → ℕ → Outcome
 came book t = (turn book.run (state_of book) t).outcome
 
 -- an event was told
-pub record HasTold (book : Pages) (t seq : ℕ) (call : Call) (snapshot : Snapshot) : Type 0 where
+pub record HasTold (book : BookView) (t seq : ℕ) (call : Call) (snapshot : Snapshot) : Type 0 where
   pub is_told : IsTold book.run (turn book.run (state_of book) t).state t (turn book.run (state_of book) t).outcome call snapshot
   pub place : seq ≡ length book.history
   pub added_is : (turn_visit book t).added ≡ go_at t ∷ []
 
 -- an event has occurred, and wasn't told
-pub record HasUntold (book : Pages) (t : ℕ) : Type 0 where
+pub record HasUntold (book : BookView) (t : ℕ) : Type 0 where
   pub is_untold : IsUntold book.run (turn book.run (state_of book) t).outcome
   pub added_is : (turn_visit book t).added ≡ go_at t ∷ back_at t ∷ []
 
 -- no event has occurred
-pub record IsAlone (book : Pages) (t : ℕ) : Type 0 where
+pub record IsAlone (book : BookView) (t : ℕ) : Type 0 where
   pub none : inside_after (turn book.run (state_of book) t).outcome t ≡ None
   pub added_is : (turn_visit book t).added ≡ go_at t ∷ []
 
-abbrev told_of : Pages → ℕ → Went
+abbrev told_of : BookView → ℕ → Went
 told_of book t = went_of book.run (state_of book) t
 
-module _ (book : Pages) (t : ℕ) where
+module _ (book : BookView) (t : ℕ) where
   visit-is : (told : Went) → told_of book t ≡ told → turn_visit book t ≡ visit_of_went (length book.history) t told
   visit-is told is = turn-went book (state_of book) t told refl (sym is)
 

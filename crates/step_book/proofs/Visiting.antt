@@ -25,11 +25,11 @@ use Rattle.omp_model.proofs.Recording.{put_all-halt, put_all-turns, reply-after,
 use Rattle.omp_model.proofs.MadeRuns.{made-after}
 use Rattle.omp_model.proofs.Turns.{Leaves, back-halt, back-turns, leaves-turn, turn-below, turn-goes, turn-pending, turns-rise}
 use Rattle.omp_machine.specs.declared.went.Went.TheVariants as went
-use Rattle.omp_machine.specs.Standing.{went_of}
+use Rattle.omp_machine.specs.MachineView.{went_of}
 use Rattle.step_book.specs.Entries.{EntriesView}
 use Rattle.step_book.specs.declared.step.Step.TheVariants.{Told, Ended}
 use Rattle.step_book.specs.Owing.{Owes, OwesAnswer, count_pending}
-use Rattle.step_book.specs.Pages.{Pages, state_of}
+use Rattle.step_book.specs.BookView.{BookView, state_of}
 use Rattle.step_book.specs.Sound.{IsBook}
 use Rattle.step_book.specs.Visit.{Visit, idle_by, idle_step, is_turn, turn_visit, visit, visit_by, without_entry}
 use Rattle.step_book.proofs.Counting.{count-in, count-none, count-out, count-same}
@@ -38,22 +38,22 @@ use Rattle.step_book.proofs.Telling.{HasTold, told-step, turn-went}
 
 -- A visit that is a turn, and one that isn't.
 
-by-turn : (book : Pages) (t : ℕ) (cause : Option Cause) → (is_none cause && enabled (state_of book) t) ≡ true → visit_by book t cause ≡ turn_visit book t
+by-turn : (book : BookView) (t : ℕ) (cause : Option Cause) → (is_none cause && enabled (state_of book) t) ≡ true → visit_by book t cause ≡ turn_visit book t
 by-turn book t (Some cause) is = cc
 by-turn book t None is = rw is refl
 
-pub visit-turn : (book : Pages) (t : ℕ) → is_turn book t ≡ true → visit book t ≡ turn_visit book t
+pub visit-turn : (book : BookView) (t : ℕ) → is_turn book t ≡ true → visit book t ≡ turn_visit book t
 visit-turn book t is =
     elim book.ended as (λ b. (not b && is_none (cause_of book.run book.history) && enabled (state_of book) t) ≡ true → (if◌then◌else◌ {A = Visit} b (without_entry (Ended cause.Memory)) (visit_by book t (cause_of book.run book.history))) ≡ turn_visit book t) [
       | true ↦ λ is. cc
       | false ↦ λ is. by-turn book t (cause_of book.run book.history) is
     ] is
 
-by-idle : (book : Pages) (t : ℕ) (cause : Option Cause) → (is_none cause && enabled (state_of book) t) ≡ false → visit_by book t cause ≡ without_entry (idle_by cause)
+by-idle : (book : BookView) (t : ℕ) (cause : Option Cause) → (is_none cause && enabled (state_of book) t) ≡ false → visit_by book t cause ≡ without_entry (idle_by cause)
 by-idle book t (Some cause) is = refl
 by-idle book t None is = rw is refl
 
-pub visit-idle : (book : Pages) (t : ℕ) → is_turn book t ≡ false → visit book t ≡ without_entry (idle_step book)
+pub visit-idle : (book : BookView) (t : ℕ) → is_turn book t ≡ false → visit book t ≡ without_entry (idle_step book)
 visit-idle book t is =
     elim book.ended as (λ b. (not b && is_none (cause_of book.run book.history) && enabled (state_of book) t) ≡ false → (if◌then◌else◌ {A = Visit} b (without_entry (Ended cause.Memory)) (visit_by book t (cause_of book.run book.history))) ≡ without_entry (if b then Ended cause.Memory else idle_by (cause_of book.run book.history))) [
       | true ↦ λ is. refl
@@ -104,7 +104,7 @@ open-cause run S t below on unfinished =
     ap (cause_by_halt run S) (turn-goes S t on).halt ∙ ap (cause_of_whole run S) unfinished ∙ not-deadlock (is_stuck run S) (not-stuck run S t below on)
 
 -- so a visit to a run that isn't whole, nor ended for want of memory, is a turn exactly where the thread is enabled
-pub turn-open : (book : Pages) (t : ℕ) → book.ended ≡ false → whole_value (state_of book).world ≡ None → t < book.run.threads → is_turn book t ≡ enabled (state_of book) t
+pub turn-open : (book : BookView) (t : ℕ) → book.ended ≡ false → whole_value (state_of book).world ≡ None → t < book.run.threads → is_turn book t ≡ enabled (state_of book) t
 turn-open book t open_still unfinished below = by-enabled (enabled (state_of book) t) refl
   where
     by-enabled : (b : Bool) → enabled (state_of book) t ≡ b → (not book.ended && is_none (cause_of book.run book.history) && b) ≡ b
@@ -204,34 +204,34 @@ book-returned run S E owing book t stores few may inside later entries fewer_owi
     }
 
 -- What is known of a book's parts, where it is seen as these pages.
-module _ (run : Run) (S : State) (E : EntriesView) (owing : ℕ) (ended : Bool) (book : Pages) (view : record { run = run; history = E.entries; ended = ended } ≡ book) (so : IsBook run S E owing) where
+module _ (run : Run) (S : State) (E : EntriesView) (owing : ℕ) (ended : Bool) (book : BookView) (view : record { run = run; history = E.entries; ended = ended } ≡ book) (so : IsBook run S E owing) where
   pub same-run : book.run ≡ run
-  same-run = ap (λ (book : Pages). book.run) (sym view)
+  same-run = ap (λ (book : BookView). book.run) (sym view)
 
   pub same-history : book.history ≡ E.entries
-  same-history = ap (λ (book : Pages). book.history) (sym view)
+  same-history = ap (λ (book : BookView). book.history) (sym view)
 
   pub same-state : state_of book ≡ S
-  same-state = subst (λ (book : Pages). state_of book ≡ S) view so.reached
+  same-state = subst (λ (book : BookView). state_of book ≡ S) view so.reached
 
   pub enabled-here : (t : ℕ) → enabled (state_of book) t ≡ true → enabled S t ≡ true
   enabled-here t on = subst (λ (S : State). enabled S t ≡ true) same-state on
 
   -- an answer that is owed, said of the parts
   pub owes-here : (t : ℕ) (snapshot : Snapshot) → OwesAnswer book t snapshot → OwesAnswer (record { run = run; history = E.entries; ended = ended }) t snapshot
-  owes-here t snapshot owes = subst (λ (book : Pages). OwesAnswer book t snapshot) (sym view) owes
+  owes-here t snapshot owes = subst (λ (book : BookView). OwesAnswer book t snapshot) (sym view) owes
 
 none-of : {A : Type 0} (o : Option A) → is_some o ≡ false → o ≡ None
 none-of None none = refl
 none-of (Some x) none = absurd (true≢false none)
 
 -- the visit to a book that may go on is a turn exactly where the thread is enabled
-pub turn-here : (run : Run) (S : State) (E : EntriesView) (owing : ℕ) (ended : Bool) (book : Pages) → record { run = run; history = E.entries; ended = ended } ≡ book → IsBook run S E owing → (t : ℕ) → ended ≡ false → is_some (whole_value S.world) ≡ false → t < book.run.threads → enabled S t ≡ is_turn book t
+pub turn-here : (run : Run) (S : State) (E : EntriesView) (owing : ℕ) (ended : Bool) (book : BookView) → record { run = run; history = E.entries; ended = ended } ≡ book → IsBook run S E owing → (t : ℕ) → ended ≡ false → is_some (whole_value S.world) ≡ false → t < book.run.threads → enabled S t ≡ is_turn book t
 turn-here run S E owing ended book view so t undone unfinished below =
-    let parts : Pages = record { run = run; history = E.entries; ended = ended } in
-    let within : t < run.threads = subst (λ (book : Pages). t < book.run.threads) (sym view) below in
+    let parts : BookView = record { run = run; history = E.entries; ended = ended } in
+    let within : t < run.threads = subst (λ (book : BookView). t < book.run.threads) (sym view) below in
     let whole : whole_value (state_of parts).world ≡ None = ap (λ (S : State). whole_value S.world) so.reached ∙ none-of (whole_value S.world) unfinished in
-    subst (λ (book : Pages). enabled S t ≡ is_turn book t) view (sym (turn-open parts t undone whole within ∙ ap (λ (S : State). enabled S t) so.reached))
+    subst (λ (book : BookView). enabled S t ≡ is_turn book t) view (sym (turn-open parts t undone whole within ∙ ap (λ (S : State). enabled S t) so.reached))
 
 -- a thread that owes an answer is counted
 pub owing-some : (run : Run) (S : State) (E : EntriesView) (owing : ℕ) (ended : Bool) (t : ℕ) (snapshot : Snapshot) → IsBook run S E owing → OwesAnswer (record { run = run; history = E.entries; ended = ended }) t snapshot → 1 ≤ owing
@@ -253,7 +253,7 @@ inside-told run history t event some below happens =
     ap (λ pending. slice_index_or pending t None) (turn-pending run S t event happens) ∙ get_or-set_same S.pending t (Some (called event)) None (omega (arith, places, below))
 
 pub owes-told :
-    (book : Pages) (t seq : ℕ) (call : Call) (snapshot : Snapshot) → 1 ≤ book.run.threads → t < book.run.threads → (told : HasTold book t seq call snapshot)
+    (book : BookView) (t seq : ℕ) (call : Call) (snapshot : Snapshot) → 1 ≤ book.run.threads → t < book.run.threads → (told : HasTold book t seq call snapshot)
     → Owes book.run (book.history ++ (turn_visit book t).added) t seq call snapshot
 owes-told book t seq call snapshot some below told =
     let run = book.run in
@@ -277,7 +277,7 @@ pub owes-turned :
     (run : Run) (S : State) (E : EntriesView) (owing : ℕ) (ended : Bool) → IsBook run S E owing → (t seq : ℕ) (call : Call) (snapshot : Snapshot) → t < run.threads → went.Told call snapshot ≡ went_of run S t → seq ≡ length E.entries
     → (later : List Entry) → later ≡ E.entries ++ go_at t ∷ [] → Owes run later t seq call snapshot
 owes-turned run S E owing ended so t seq call snapshot below said place later is =
-    let parts : Pages = record { run = run; history = E.entries; ended = ended } in
+    let parts : BookView = record { run = run; history = E.entries; ended = ended } in
     let visit_is = turn-went parts S t (went.Told call snapshot) so.reached said in
     let told : HasTold parts t seq call snapshot = told-step parts t seq call snapshot (ap (λ (visit : Visit). visit.step) visit_is ∙ ap (λ seq. Told seq call snapshot) (sym place)) in
     let owes = owes-told parts t seq call snapshot so.some below told in

@@ -1,6 +1,6 @@
 pub mod Entries
 pub mod Owing
-pub mod Pages
+pub mod BookView
 pub mod Sound
 pub mod Visit
 pub mod Rule

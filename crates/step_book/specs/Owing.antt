@@ -15,7 +15,7 @@ use Rattle.omp_model.specs.Storing.{go_at}
 use Rattle.omp_model.specs.Turn.{called, turn}
 use Rattle.step_book.specs.declared.step.Step.{Step}
 use Rattle.step_book.specs.declared.step.Step.TheVariants.{Told}
-use Rattle.step_book.specs.Pages.{Pages}
+use Rattle.step_book.specs.BookView.{BookView}
 
 -- none of these entries is of the thread
 abbrev pub NotBy : ℕ → List Entry → Type 0
@@ -38,13 +38,13 @@ pub record Owes (run : Run) (history : List Entry) (t seq : ℕ) (call : Call) (
   pub inside : pending_at (after run history) t ≡ Some (called event)
 
 -- the thread owes the answer to the event with this snapshot
-pub record OwesAnswer (book : Pages) (t : ℕ) (snapshot : Snapshot) : Type 0 where
+pub record OwesAnswer (book : BookView) (t : ℕ) (snapshot : Snapshot) : Type 0 where
   pub seq : ℕ
   pub call : Call
   pub owes : Owes book.run book.history t seq call snapshot
 
 -- the answer that the thread owes after this step of its own
-abbrev pub OwesStep : Pages → ℕ → Step → Type 0
+abbrev pub OwesStep : BookView → ℕ → Step → Type 0
 OwesStep book t (Told seq call snapshot) = Owes book.run book.history t seq call snapshot
 OwesStep book t other = Unit {0}
 

@@ -15,7 +15,7 @@ use Rattle.omp_model.specs.Storing.{back_at, go_at}
 use Rattle.omp_model.specs.Turn.{Turn, enabled, turn}
 use Rattle.step_book.specs.declared.step.Step.{Step}
 use Rattle.step_book.specs.declared.step.Step.TheVariants.{Told, Quiet, NotYet, Ended}
-use Rattle.step_book.specs.Pages.{Pages, state_of}
+use Rattle.step_book.specs.BookView.{BookView, state_of}
 
 pub record Visit : Type 0 where
   pub step : Step
@@ -45,24 +45,24 @@ visit_of_outcome mask seq t W outcome.Quiet = record { step = Quiet; added = go_
 visit_of_outcome mask seq t W (outcome.Happens event) = visit_of_event mask seq t W event
 visit_of_outcome mask seq t W (outcome.Halts halt) = record { step = Ended (cause_of_halt halt); added = go_at t ∷ [] }
 
-abbrev pub visit_of_turn : Pages → ℕ → Turn → Visit
+abbrev pub visit_of_turn : BookView → ℕ → Turn → Visit
 visit_of_turn book t came = visit_of_outcome book.run.mask (length book.history) t came.state.world came.outcome
 
 -- the visit of an enabled thread is a turn
-abbrev pub turn_visit : Pages → ℕ → Visit
+abbrev pub turn_visit : BookView → ℕ → Visit
 turn_visit book t = visit_of_turn book t (turn book.run (state_of book) t)
 
 -- the visit where the history has ended in this cause, if it has
-abbrev pub visit_by : Pages → ℕ → Option Cause → Visit
+abbrev pub visit_by : BookView → ℕ → Option Cause → Visit
 visit_by book t (Some cause) = without_entry (Ended cause)
 visit_by book t None = if enabled (state_of book) t then turn_visit book t else without_entry NotYet
 
 -- the visit of a thread: nothing more happens where the run was ended for want of memory, or the history has ended
-abbrev pub visit : Pages → ℕ → Visit
+abbrev pub visit : BookView → ℕ → Visit
 visit book t = if book.ended then without_entry (Ended Memory) else visit_by book t (cause_of book.run book.history)
 
 -- a visit is a turn where the run hasn't ended and the thread is enabled
-abbrev pub is_turn : Pages → ℕ → Bool
+abbrev pub is_turn : BookView → ℕ → Bool
 is_turn book t = not book.ended && is_none (cause_of book.run book.history) && enabled (state_of book) t
 
 -- what is told by a visit that is no turn
@@ -70,5 +70,5 @@ abbrev pub idle_by : Option Cause → Step
 idle_by (Some cause) = Ended cause
 idle_by None = NotYet
 
-abbrev pub idle_step : Pages → Step
+abbrev pub idle_step : BookView → Step
 idle_step book = if book.ended then Ended Memory else idle_by (cause_of book.run book.history)

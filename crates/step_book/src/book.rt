@@ -12,7 +12,7 @@ ghost use Rattle.omp_model.specs.Serial.{first_enabled};
 ghost use Rattle.omp_model.specs.Storing.{MayStore, back_at, event_reply, put_all, puts_at};
 ghost use Rattle.omp_model.specs.Turn.{enabled};
 ghost use Rattle.step_book.specs.Owing.{OwesAnswer, OwesStep};
-ghost use Rattle.step_book.specs.Pages.{Pages, state_of, with_entries};
+ghost use Rattle.step_book.specs.BookView.{BookView, state_of, with_entries};
 ghost use Rattle.step_book.specs.Visit.{idle_step, is_turn, turn_visit, visit};
 
 use crate::closed::Closed;
@@ -47,12 +47,12 @@ pub struct Book {
 }
 
 impl Model for Book {
-    ghost use Rattle.step_book.specs.Pages.{Pages, pages_code};
+    ghost use Rattle.step_book.specs.BookView.{BookView, book_view_code};
     ghost use Rattle.step_book.specs.Sound.{IsBook};
 
-    ghost Value = { Pages };
+    ghost Value = { BookView };
 
-    ghost coded = { pages_code };
+    ghost coded = { book_view_code };
 
     ghost view = { λ book. record { run = book.machine.run; history = book.entries.entries; ended = book.ended } };
 

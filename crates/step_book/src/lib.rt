@@ -50,16 +50,16 @@
 //! - a hold of the pass's thread is put last, with the entries that it added, and the pass has seen all;
 //! - the book gives the pass back.
 //!
-//! `src/seats.rt` has these steps as functions over the book's seat and the badges of the passes, and `src/desk.rt` makes
+//! `src/seats.rt` has these steps as functions over the book's seat and the badges of the passes, and `src/locked_book.rt` makes
 //! the calls of a pass of them.
 #![tactic(auto)]
 
 mod blank;
 mod book;
 mod closed;
-mod desk;
 mod entries;
 mod hold;
+mod locked_book;
 mod name;
 mod pass;
 mod rule;

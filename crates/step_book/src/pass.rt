@@ -5,7 +5,7 @@ ghost use Rattle.omp_model.specs.Legal.{Legal};
 ghost use Rattle.step_book.specs.Rule.{entries_of};
 
 use crate::name::BookName;
-use crate::view::View;
+use crate::view::SeatView;
 use atomic_table::Badge;
 use std::marker::{Model, PhantomData};
 
@@ -14,7 +14,7 @@ use std::marker::{Model, PhantomData};
 #[derive(Drop)]
 pub struct Pass<K: BookName> {
     /// Its seat at the table, while no call is under way.
-    pub(crate) badge: Badge<View>,
+    pub(crate) badge: Badge<SeatView>,
     /// The thread's number, from 0.
     pub(crate) thread: u8,
     /// Whether it has ended the run for want of memory.
@@ -26,10 +26,10 @@ pub struct Pass<K: BookName> {
 }
 
 impl<K: BookName> Model for Pass<K> {
-    ghost use Rattle.step_book.specs.Sharing.{IsPassOf, Sight, seen_in};
+    ghost use Rattle.step_book.specs.Sharing.{IsPassOf, PassView, seen_in};
     ghost use Rattle.step_book.specs.Steps.{view_in};
 
-    ghost Value = { Sight };
+    ghost Value = { PassView };
 
     ghost view = { λ pass. record {
       thread = pass.thread;

@@ -2,11 +2,11 @@
 
 ghost use Rattle.std.specs.Prelude.{◌≡◌, List, []};
 ghost use Rattle.omp_model.specs.declared.history.Entry.{Entry};
-ghost use Rattle.step_book.specs.declared.view.View.TheVariants.{Spent};
+ghost use Rattle.step_book.specs.declared.view.SeatView.TheVariants.{Spent};
 ghost use Rattle.step_book.specs.Rule.{HasOneHistory};
 ghost use Rattle.step_book.specs.Steps.{first_view, one_more_pass, next_pass, with_pass, with_hold, without_pass, held_pass, LookTells};
 
-use crate::view::View;
+use crate::view::SeatView;
 use atomic_table::{Join, Play, Split, TableRule};
 use std::marker::{Brand, PhantomData};
 
@@ -14,7 +14,7 @@ use std::marker::{Brand, PhantomData};
 /// which no hold is of the pass's thread.
 pub(crate) struct OneHistory;
 
-impl TableRule<(), View, ()> for OneHistory {
+impl TableRule<(), SeatView, ()> for OneHistory {
     ghost holds = { λ key table. HasOneHistory table };
 
     ghost first = { λ key. first_view };
@@ -23,7 +23,7 @@ impl TableRule<(), View, ()> for OneHistory {
 /// A pass is made for the next thread.
 pub(crate) struct Makes;
 
-impl Split<View> for Makes {
+impl Split<SeatView> for Makes {
     ghost left = { one_more_pass };
 
     ghost right = { next_pass };
@@ -32,7 +32,7 @@ impl Split<View> for Makes {
 /// The book takes in a pass.
 pub(crate) struct Takes;
 
-impl Join<View> for Takes {
+impl Join<SeatView> for Takes {
     ghost both = { with_pass };
 
     ghost spent = { Spent };
@@ -41,7 +41,7 @@ impl Join<View> for Takes {
 /// The book looks at the word, which tells what the pass that it has taken in has seen.
 pub(crate) struct Looks;
 
-impl Play<(), View> for Looks {
+impl Play<(), SeatView> for Looks {
     ghost then = { λ step before found after. (after ≡ before) × LookTells before.0 };
 }
 
@@ -57,14 +57,14 @@ impl Added for Brand {
 /// A hold of the thread whose pass the book has taken in is put last, with the entries of `E`.
 pub(crate) struct Adds<E: Added>(PhantomData<E>);
 
-impl<E: Added> Play<(), View> for Adds<E> {
+impl<E: Added> Play<(), SeatView> for Adds<E> {
     ghost then = { λ step before found after. after ≡ (with_hold before.0 E.entries, before.1) };
 }
 
 /// The book gives the pass back.
 pub(crate) struct Gives;
 
-impl Split<View> for Gives {
+impl Split<SeatView> for Gives {
     ghost left = { without_pass };
 
     ghost right = { held_pass };

@@ -4,7 +4,7 @@ ghost use Rattle.std.specs.Prelude.{◌≡◌, ◌<◌, List, [], ◌∷◌, len
 ghost use Rattle.step_book.specs.Steps.{first_view, one_more_pass, next_pass, with_pass, LookTells, HasRoom, with_hold, without_pass, held_pass, view_in, IsBadge};
 
 use crate::rule::{Added, Adds, Gives, Looks, Makes, OneHistory, Takes};
-use crate::view::View;
+use crate::view::SeatView;
 use atomic_table::{Badge, Seat, Shared, Table};
 use omp_model::Entry;
 use std::alloc::{AllocError, Global};
@@ -12,13 +12,13 @@ use std::marker::Brand;
 use std::mem;
 
 /// The table of one word, the number of entries, which all threads share.
-pub(crate) type SharedCount = Shared<(), View, (), OneHistory>;
+pub(crate) type SharedCount = Shared<(), SeatView, (), OneHistory>;
 
 /// The same with its memory.
-pub(crate) type CountTable = Table<(), View, (), OneHistory, Global>;
+pub(crate) type CountTable = Table<(), SeatView, (), OneHistory, Global>;
 
 /// The seat of the book, which alone steps.
-pub(crate) type BookSeat = Seat<(), View>;
+pub(crate) type BookSeat = Seat<(), SeatView>;
 
 /// Makes the table, and the seat of a book with no hold, of which no pass was made.
 pub(crate) fn new_table(alloc: Global) -> Result<(CountTable, BookSeat), AllocError>
@@ -30,7 +30,7 @@ pub(crate) fn new_table(alloc: Global) -> Result<(CountTable, BookSeat), AllocEr
 }
 
 /// Makes a pass for the next thread. It has seen no hold.
-pub(crate) fn new_pass(count: &SharedCount, seat: &mut BookSeat) -> Badge<View>
+pub(crate) fn new_pass(count: &SharedCount, seat: &mut BookSeat) -> Badge<SeatView>
     requires word { 0 < count.now.table_id.words }
     requires seat { seat.old.table_id ≡ count.now.table_id }
     ensures seat { seat.new.table_id ≡ count.now.table_id }
@@ -42,7 +42,7 @@ pub(crate) fn new_pass(count: &SharedCount, seat: &mut BookSeat) -> Badge<View>
 }
 
 /// The book takes in a pass, in place of any that it had, and is told what the pass has seen. The badge is blank then.
-pub(crate) fn take_pass(count: &SharedCount, seat: &mut BookSeat, pass: &mut Badge<View>)
+pub(crate) fn take_pass(count: &SharedCount, seat: &mut BookSeat, pass: &mut Badge<SeatView>)
     requires word { 0 < count.now.table_id.words }
     requires seat { seat.old.table_id ≡ count.now.table_id }
     requires pass { pass.old.table_id ≡ count.now.table_id }
@@ -81,7 +81,7 @@ fn add_hold_as<E: Added>(count: &SharedCount, seat: &mut BookSeat, entries: &[En
 }
 
 /// The book gives back the pass that it had taken in.
-pub(crate) fn give_pass(count: &SharedCount, seat: &mut BookSeat, pass: &mut Badge<View>)
+pub(crate) fn give_pass(count: &SharedCount, seat: &mut BookSeat, pass: &mut Badge<SeatView>)
     requires word { 0 < count.now.table_id.words }
     requires seat { seat.old.table_id ≡ count.now.table_id }
     ensures seat { seat.new.table_id ≡ count.now.table_id }

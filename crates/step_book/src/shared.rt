@@ -8,13 +8,13 @@ ghost use Rattle.omp_model.specs.Cause.{cause_of};
 ghost use Rattle.omp_model.specs.Legal.{after};
 ghost use Rattle.omp_model.specs.Storing.{event_reply};
 ghost use Rattle.step_book.specs.declared.step.Step.{Step};
-ghost use Rattle.step_book.specs.declared.view.View.TheVariants.{OfBook};
+ghost use Rattle.step_book.specs.declared.view.SeatView.TheVariants.{OfBook};
 ghost use Rattle.step_book.specs.Owing.{OwesAnswer, OwesStep};
-ghost use Rattle.step_book.specs.Sharing.{Answers, Goes, Grows, IsClosed, KeepsStep, Sight, any_ended, fresh_pass, pages_of};
+ghost use Rattle.step_book.specs.Sharing.{AnswersThen, VisitsAfterOthers, AddsHold, IsClosed, KeepsStep, PassView, any_ended, fresh_pass, book_after};
 
 use crate::blank::Blank;
 use crate::closed::Closed;
-use crate::desk::Desk;
+use crate::locked_book::LockedBook;
 use crate::name::BookName;
 use crate::pass::Pass;
 use crate::seats::{BookSeat, CountTable, SharedCount, new_pass};
@@ -37,7 +37,7 @@ pub struct SharedBook<K: BookName> {
     /// The table of the word that counts the entries.
     words: CountTable,
     /// The book with its seat.
-    desk: Mutex<Desk<K>>,
+    desk: Mutex<LockedBook<K>>,
     /// What wakes the threads.
     bells: Bells,
     ghost named: { words.shared.table_id ≡ K.table },
@@ -56,7 +56,7 @@ impl<K: BookName> SharedBook<K> {
         requires table { blank.table ≡ K.table }
         requires run { blank.run ≡ K.run }
         ensures count { IfOk result (λ made. length made.1.items ≡ K.run.threads) }
-        ensures passes { IfOk result (λ made. (k : ℕ) (d : Sight) → k < K.run.threads →
+        ensures passes { IfOk result (λ made. (k : ℕ) (d : PassView) → k < K.run.threads →
             get_or made.1.items k d ≡ fresh_pass k) }
     {
         let Blank {
@@ -66,7 +66,7 @@ impl<K: BookName> SharedBook<K> {
         } = blank;
         let passes = make_passes(alloc, &words.shared, &mut seat, book.threads())?;
         let bells = Bells::new(alloc, book.threads())?;
-        let desk = Mutex::new(Desk::new(book, seat, processors));
+        let desk = Mutex::new(LockedBook::new(book, seat, processors));
         Ok((SharedBook { words, desk, bells }, passes))
     }
 
@@ -77,11 +77,11 @@ impl<K: BookName> SharedBook<K> {
     pub fn go(&self, rt: &impl Wait, pass: &mut Pass<K>) -> Result<Step, Memory>
         ensures over { pass.old.ended ≡ true → (pass.new ≡ pass.old) × IsOk result ×
             IfOk result (λ step. step ≡ Step.Ended Cause.Memory) }
-        ensures ok { pass.old.ended ≡ false → IfOk result (λ step. Goes K.run pass.old step pass.new) }
+        ensures ok { pass.old.ended ≡ false → IfOk result (λ step. VisitsAfterOthers K.run pass.old step pass.new) }
         ensures told { IfOk result (λ step. KeepsStep pass.new step) }
         ensures owes { IfOk result (λ step.
-            OwesStep (pages_of K.run pass.new.seen pass.new.ended) pass.new.thread step) }
-        ensures memory { OnErr result (Grows pass.old pass.new []) }
+            OwesStep (book_after K.run pass.new.seen pass.new.ended) pass.new.thread step) }
+        ensures memory { OnErr result (AddsHold pass.old pass.new []) }
         ensures thread { pass.new.thread ≡ pass.old.thread }
         ensures ended { pass.new.ended ≡ pass.old.ended }
     {
@@ -100,8 +100,8 @@ impl<K: BookName> SharedBook<K> {
 
     /// The answer of the tool of the pass's thread, where it is owed. No memory is taken.
     pub fn answer(&self, rt: &impl Wait, pass: &mut Pass<K>, reply: &Reply, snapshot: &Snapshot)
-        requires { OwesAnswer (pages_of K.run pass.old.seen pass.old.ended) pass.old.thread snapshot.now }
-        ensures seen { Grows pass.old pass.new (event_reply pass.old.thread (stores_of reply.now snapshot.now)) }
+        requires { OwesAnswer (book_after K.run pass.old.seen pass.old.ended) pass.old.thread snapshot.now }
+        ensures seen { AddsHold pass.old pass.new (event_reply pass.old.thread (stores_of reply.now snapshot.now)) }
         ensures thread { pass.new.thread ≡ pass.old.thread }
         ensures ended { pass.new.ended ≡ pass.old.ended }
     {
@@ -120,15 +120,15 @@ impl<K: BookName> SharedBook<K> {
         reply: &Reply,
         snapshot: Snapshot,
     ) -> Result<Step, Memory>
-        requires { OwesAnswer (pages_of K.run pass.old.seen pass.old.ended) pass.old.thread snapshot }
+        requires { OwesAnswer (book_after K.run pass.old.seen pass.old.ended) pass.old.thread snapshot }
         ensures ok { IfOk result (λ step.
-            Answers pass.old (event_reply pass.old.thread (stores_of reply.now snapshot)) (λ answered.
-            Goes K.run answered step pass.new)) }
+            AnswersThen pass.old (event_reply pass.old.thread (stores_of reply.now snapshot)) (λ answered.
+            VisitsAfterOthers K.run answered step pass.new)) }
         ensures told { IfOk result (λ step. KeepsStep pass.new step) }
         ensures owes { IfOk result (λ step.
-            OwesStep (pages_of K.run pass.new.seen pass.new.ended) pass.new.thread step) }
-        ensures memory { OnErr result (Answers pass.old (event_reply pass.old.thread (stores_of reply.now snapshot))
-            (λ answered. Grows answered pass.new [])) }
+            OwesStep (book_after K.run pass.new.seen pass.new.ended) pass.new.thread step) }
+        ensures memory { OnErr result (AnswersThen pass.old (event_reply pass.old.thread (stores_of reply.now snapshot))
+            (λ answered. AddsHold answered pass.new [])) }
         ensures thread { pass.new.thread ≡ pass.old.thread }
         ensures ended { pass.new.ended ≡ pass.old.ended }
     {
@@ -146,7 +146,7 @@ impl<K: BookName> SharedBook<K> {
 
     /// The pass ends the run for want of memory. No memory is taken.
     pub fn end_memory(&self, rt: &impl Wait, pass: &mut Pass<K>)
-        ensures seen { Grows pass.old pass.new [] }
+        ensures seen { AddsHold pass.old pass.new [] }
         ensures thread { pass.new.thread ≡ pass.old.thread }
         ensures ended { pass.new.ended ≡ true }
     {
@@ -184,7 +184,7 @@ impl<K: BookName> SharedBook<K> {
     pub fn close(self, mut passes: Vec<Pass<K>>) -> Closed
         requires some { 0 < K.run.threads }
         requires count { length passes.items ≡ K.run.threads }
-        requires order { (k : ℕ) (d : Sight) → k < K.run.threads → (get_or passes.items k d).thread ≡ k }
+        requires order { (k : ℕ) (d : PassView) → k < K.run.threads → (get_or passes.items k d).thread ≡ k }
         ensures closed { IsClosed K.run passes.items result.history }
         ensures text { result.text.items ≡ (after K.run result.history).world.store.text }
         ensures cause { result.cause ≡ (if any_ended passes.items then Some Cause.Memory
@@ -215,7 +215,7 @@ fn make_passes<K: BookName>(
     ensures seat { seat.new.table_id ≡ count.now.table_id }
     ensures view { OnOk result (seat.new.me ≡ (OfBook [] threads None, [])) }
     ensures count { IfOk result (λ passes. length passes.items ≡ threads) }
-    ensures passes { IfOk result (λ passes. (k : ℕ) (d : Sight) → k < threads →
+    ensures passes { IfOk result (λ passes. (k : ℕ) (d : PassView) → k < threads →
         get_or passes.items k d ≡ fresh_pass k) }
 {
     let mut passes = Vec::new(alloc);

@@ -15,7 +15,7 @@ use Rattle.omp_model.specs.declared.event.Event.{Event}
 use Rattle.omp_model.specs.declared.event.Event.TheVariants.{Sync}
 use Rattle.omp_model.specs.declared.limits.TheConstants.{IMPLICIT_REGION, INITIAL_TASK}
 use Rattle.omp_model.specs.Conditions.{has_started}
-use Rattle.omp_model.specs.Made.{IsTask}
+use Rattle.omp_model.specs.MadeWorld.{IsTask}
 use Rattle.omp_model.specs.Members.{current, is_explicit_task, member_index, region_of}
 use Rattle.omp_model.specs.State.{World, pooled_at, region_at, task_at}
 use Rattle.nested_runs.proofs.Recorded.{Inside}

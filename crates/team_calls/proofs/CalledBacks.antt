@@ -16,7 +16,7 @@ use Rattle.omp_model.specs.State.{Run, Thread, World, pooled_at, region_at, task
 use Rattle.task_pool.specs.declared.task.Task.{Task as PoolTask}
 use Rattle.team_words.specs.Team.{Met, Team, is_at_barrier, last_met, met_by}
 use Rattle.team_calls.proofs.Places.{MayMeet, at-barrier, of-barrier, place-known, IsWaiting, PlaceOf}
-use Rattle.omp_model.specs.Made.{IsTask}
+use Rattle.omp_model.specs.MadeWorld.{IsTask}
 use Rattle.nested_runs.proofs.Recorded.{Inside}
 use Rattle.omp_model.specs.declared.limits.TheConstants.{IMPLICIT_REGION, INITIAL_TASK}
 use Rattle.team_calls.proofs.Follows.{Follows, words-size, words_of}

@@ -42,8 +42,8 @@ use Rattle.omp_model.specs.declared.event.Event.TheVariants as event
 use Rattle.omp_model.specs.declared.limits.TheConstants.{IMPLICIT_REGION, INITIAL_TASK}
 use Rattle.omp_model.specs.Conditions.{has_started}
 use Rattle.omp_model.specs.Gates.{is_barrier}
-use Rattle.omp_model.specs.Going.{Happens, after_meeting_at, barrier_met, effect_of_point, event_of_point, fault_of_point, going_by, going_in_code, meeting_at, past_point, told, work_met}
-use Rattle.omp_model.specs.Made.{IsTask}
+use Rattle.omp_model.specs.EventEffects.{Happens, after_meeting_at, barrier_met, effect_of_point, event_of_point, fault_of_point, going_by, go_of_code, meeting_at, past_point, told, work_met}
+use Rattle.omp_model.specs.MadeWorld.{IsTask}
 use Rattle.omp_model.specs.Members.{current, current_index, current_region, current_team, is_explicit_task, is_member, member_index, region_of, view_of}
 use Rattle.omp_model.specs.State.{Region, Run, World, fresh_team, no_region, pooled_at, region_at, task_at, Thread}
 use Rattle.omp_model.proofs.Touching.{Meets, SameTeam, is_of_code, MeetsWork, regions_after}
@@ -93,8 +93,8 @@ at-outcome run W after t e (Ends number) is happens = cc
 at-outcome run W after t e (Traps trap) is happens = cc
 at-outcome run W after t e (Limits limit) is happens = cc
 
-at-point : (run : Run) (W after : World) (t : ℕ) (e : Event) → going_in_code run W t ≡ Happens e after → AtPoint run W after t e
-unfolding going_in_code
+at-point : (run : Run) (W after : World) (t : ℕ) (e : Event) → go_of_code run W t ≡ Happens e after → AtPoint run W after t e
+unfolding go_of_code
 at-point run W after t e happens = at-outcome run W after t e (silent run.program (view_of W t) (told W t)) refl happens
 
 -- where a work begins it stands next

@@ -10,7 +10,7 @@ use Rattle.omp_model.proofs.MadeRuns.{made-after}
 use Rattle.team_words.proofs.Barriers.{length-made, together-made}
 use Rattle.team_words.proofs.Longest.{is-counted}
 use Rattle.team_words.specs.Team.{has_arrived, has_met, has_passed, met_at, met_by}
-use Rattle.omp_model.specs.Changes.{gone_past}
+use Rattle.omp_model.specs.Changes.{with_masked_skipped}
 use Rattle.work_laws.proofs.Events.{goes, outside-callbacks}
 use Rattle.omp_model.specs.Members.{current_index, moment_of, view_of}
 use Rattle.team_calls.proofs.CalledGos.{called-go}
@@ -36,13 +36,13 @@ use Rattle.nested_runs.proofs.Knows.{IsWholeRun, Stays}
 use Rattle.work_laws.proofs.Runs.{IsTold, first-told, stored-team, told-entry, more}
 use Rattle.c_model.specs.Formed.{IsProgramFormed}
 use Rattle.omp_model.specs.Conditions.{IsOrderly, has_started}
-use Rattle.omp_model.specs.Made.{IsMadeState, IsTask}
+use Rattle.omp_model.specs.MadeWorld.{IsMadeState, IsTask}
 use Rattle.team_words.specs.Counted.{IsCounted}
 use Rattle.nested_runs.proofs.Recorded.{Inside, event_in, inside}
 use Rattle.omp_model.specs.Silent.{Goes, Silence, Stops, silent_step}
 use Rattle.team_calls.proofs.Follows.{Follows, are-made, keeps}
 use Rattle.omp_model.specs.declared.history.Entry.{Entry}
-use Rattle.omp_model.specs.declared.event.Arrival.TheVariants.{Comes, Meets, Steps, Waits}
+use Rattle.omp_model.specs.declared.event.Arrival.TheVariants.{CodeEvent, RuntimeEvent, Steps, Waits}
 use Rattle.c_check.specs.Checked.{Checked}
 use Rattle.omp_model.specs.declared.event.Callback.{Callback}
 use Rattle.omp_model.specs.declared.history.What.TheVariants.{Back, Go, Put}
@@ -181,8 +181,8 @@ by-told some (Stops halt) one other same = refl
 on-told : (run : Run) (S : State) (t r : ℕ) (came : Arrival) (one other : World → List TeamCall) → ((W : World) → one W ≡ other W) →
     calls_on (all_told run) S t r came one ≡ calls_on run S t r came other
 on-told run S t r Waits one other same = refl
-on-told run S t r Comes one other same = refl
-on-told run S t r (Meets event) one other same = refl
+on-told run S t r CodeEvent one other same = refl
+on-told run S t r (RuntimeEvent event) one other same = refl
 on-told run S t r Steps one other same =
     let some = if_in S.world t r (calls_of_step (current_index S.world t) (silent run.program (view_of S.world t) (moment_of S.world t))) in
     ap (λ (silence : Silence). if nat_le run.steps S.steps then [] else calls_by some silence one) (silent-told run S.world t)
@@ -200,7 +200,7 @@ module _ (run : Run) where
   turn-told S t r =
       ap (λ (calls : List TeamCall). if nat_le TURN_LIMIT (S.turns + 1) then [] else calls)
       (ap₂ (λ (some more : List TeamCall). some ++ more) (steps-told STEPS_OF_A_TURN S t r)
-      (ap₂ (λ (W : World) (came : TurnOutcome). calls_of_outcome run (gone_past W t) t r came)
+      (ap₂ (λ (W : World) (came : TurnOutcome). calls_of_outcome run (with_masked_skipped W t) t r came)
       (ap (λ (w : Walk). w.state.world) (told-walk run STEPS_OF_A_TURN 0 S t)) (ap (λ (one : Turn). one.outcome) (told-turn run S t))))
 
   entry-told : (S : State) (t r : ℕ) (what : What) → calls_of_entry (all_told run) S t r what ≡ calls_of_entry run S t r what

@@ -12,7 +12,7 @@ use Rattle.team_words.specs.Calls.{is_member as is_member_of}
 use Rattle.nested_runs.proofs.Recorded.{inside}
 use Rattle.guard_laws.proofs.WorksMet.{index_of, met_at}
 use Rattle.omp_model.specs.Conditions.{has_started}
-use Rattle.omp_model.specs.Changes.{gone_past, gone_to}
+use Rattle.omp_model.specs.Changes.{with_masked_skipped, gone_to}
 use Rattle.std.proofs.lemmas.List.{get_or-set_other, get_or-set_same, append_assoc}
 use Rattle.nested_runs.proofs.PooledTasks.{current-made, current-under-way}
 use Rattle.c_model.specs.Asked.{count_asked, sections_asked}
@@ -24,7 +24,7 @@ use Rattle.omp_model.specs.Gates.{arrival}
 use Rattle.nested_runs.proofs.AlikeSteps.{alike-step, alike-past}
 use Rattle.c_brackets.specs.Opened.Open.{Works}
 use Rattle.work_laws.proofs.Teams.Standing.{Behind, Outside, Within}
-use Rattle.omp_model.specs.Turn.{Walk, going_past, walk, walk_by, walk_on, stepped, walked}
+use Rattle.omp_model.specs.Turn.{Walk, state_past_masked, walk, walk_by, walk_on, stepped, walked}
 use Rattle.c_syntax.specs.language.Tree.{Tree}
 use Rattle.work_laws.proofs.Shares.{Tellings, Tells, with_share}
 use Rattle.team_parts.specs.Team.{TeamView, member_at}
@@ -38,14 +38,14 @@ use Rattle.c_model.specs.Task.{Outcome}
 use Rattle.c_brackets.specs.Opened.{Open}
 use Rattle.work_laws.proofs.Walks.{On, on-past, on-step}
 use Rattle.omp_model.specs.declared.event.Halt.TheVariants.{Limit}
-use Rattle.omp_model.specs.Made.{IsTask}
+use Rattle.omp_model.specs.MadeWorld.{IsTask}
 use Rattle.omp_model.proofs.Arrivals.{IsInTask}
 use Rattle.guard_laws.proofs.DealtRuns.{IsAsked, IsMet, asked-reached, newest-fits}
 use Rattle.omp_model.specs.declared.limits.TheConstants.{IMPLICIT_REGION, INITIAL_TASK, STEPS}
 use Rattle.nested_runs.proofs.Knows.{Knows}
 use Rattle.guard_laws.proofs.LastMeetings.{FitsOpen, is_work, last_met}
 use Rattle.omp_model.specs.declared.event.Event.{Event}
-use Rattle.omp_model.specs.declared.event.Arrival.TheVariants.{Comes, Steps, Waits, Meets}
+use Rattle.omp_model.specs.declared.event.Arrival.TheVariants.{CodeEvent, Steps, Waits, RuntimeEvent}
 use Rattle.c_model.specs.Task.Outcome.{Asks, Ends, Limits, Occurs, StepsTo, Traps}
 use Rattle.c_model.specs.declared.question.Ask.{Ask}
 use Rattle.omp_model.proofs.Arriving.{Arrives, arrives}
@@ -230,11 +230,11 @@ module _ (run : Run) (S : State) (met : IsMet run S) (t : ℕ) (told : Tellings)
         (alike-step run W t sound.whole.returns so.on.reached.alike.codes sound.made sound.orderly steps)
 
   -- what a task goes past
-  pub past-called : (W : World) (calls : AllCalls) → OnCalls W calls → OnCalls (gone_past W t) calls
+  pub past-called : (W : World) (calls : AllCalls) → OnCalls W calls → OnCalls (with_masked_skipped W t) calls
   past-called W calls so =
       record {
         on = on-past run S met t told W so.on;
-        called = called-stays W (gone_past W t) (inside S) (alike-past W t so.on.reached.alike.codes) calls (λ q. refl) so.called;
+        called = called-stays W (with_masked_skipped W t) (inside S) (alike-past W t so.on.reached.alike.codes) calls (λ q. refl) so.called;
       }
 
   -- ---- the steps of a turn
@@ -253,12 +253,12 @@ module _ (run : Run) (S : State) (met : IsMet run S) (t : ℕ) (told : Tellings)
   no-more W calls so = subst (OnCalls W) (λ i q. sym (append-nil (calls q)) i) so
 
   on-limit : (state : State) (made : ℕ) (calls some : AllCalls) (over : Bool) (silence : Silence) (more : World → Walk) (next : World → AllCalls) →
-      OnCalls state.world calls → OnCalls (gone_past state.world t) calls → AfterSilence (On run S met t told) silence → AfterStep (λ q. calls q ++ some q) silence →
+      OnCalls state.world calls → OnCalls (with_masked_skipped state.world t) calls → AfterSilence (On run S met t told) silence → AfterStep (λ q. calls q ++ some q) silence →
       ((W : World) (calls : AllCalls) → OnCalls W calls → OnCalls (more W).state.world (λ q. calls q ++ next W q)) →
-      OnCalls (if over then walked state made (Some (Limit STEPS)) else walk_by (going_past state t) made silence more).state.world
+      OnCalls (if over then walked state made (Some (Limit STEPS)) else walk_by (state_past_masked state t) made silence more).state.world
       (λ q. calls q ++ (if over then [] else calls_by (some q) silence (λ W. next W q)))
   on-limit state made calls some true silence more next so past on called goes = no-more state.world calls so
-  on-limit state made calls some false silence more next so past on called goes = by-silence (going_past state t) made calls some silence more next past on called goes
+  on-limit state made calls some false silence more next so past on called goes = by-silence (state_past_masked state t) made calls some silence more next past on called goes
 
   on-arrival : (state : State) (made : ℕ) (calls : AllCalls) (came : Arrival) (more : World → Walk) (next : World → AllCalls) → arrival state.world t ≡ came →
       OnCalls state.world calls → ((W : World) (calls : AllCalls) → OnCalls W calls → OnCalls (more W).state.world (λ q. calls q ++ next W q)) →
@@ -269,8 +269,8 @@ module _ (run : Run) (S : State) (met : IsMet run S) (t : ℕ) (told : Tellings)
       (nat_le run.steps state.steps) (silent_step run state.world t) more next so (past-called state.world calls so)
       (on-step run S met t told state.world so.on is) (step-called state.world calls so is) goes
   on-arrival state made calls Waits more next is so goes = no-more state.world calls so
-  on-arrival state made calls Comes more next is so goes = no-more state.world calls so
-  on-arrival state made calls (Meets event) more next is so goes = no-more state.world calls so
+  on-arrival state made calls CodeEvent more next is so goes = no-more state.world calls so
+  on-arrival state made calls (RuntimeEvent event) more next is so goes = no-more state.world calls so
 
   pub walk-called : (left made : ℕ) (state : State) (calls : AllCalls) → OnCalls state.world calls →
       OnCalls (walk run left made state t).state.world (λ q. calls q ++ calls_of_steps run left state t q)

@@ -1,12 +1,12 @@
 -- A turn: its silent steps, and then an event.
 use Rattle.std.proofs.lemmas.List.{append_assoc}
 use Rattle.nested_runs.proofs.Recorded.{inside}
-use Rattle.omp_model.specs.Changes.{gone_past}
+use Rattle.omp_model.specs.Changes.{with_masked_skipped}
 use Rattle.omp_model.specs.Members.{current_region}
 use Rattle.omp_model.proofs.GonePast.{comes-past}
 use Rattle.omp_model.specs.Gates.{arrival}
 use Rattle.omp_model.specs.declared.event.Outcome.{Outcome as TurnOutcome}
-use Rattle.omp_model.specs.Turn.{Turn, Walk, after_steps, after_walk, going_past, turn, walk, with_going, without_event, counted, halted, unlimited}
+use Rattle.omp_model.specs.Turn.{Turn, Walk, after_steps, after_walk, state_past_masked, turn, walk, with_going, without_event, counted, halted, unlimited}
 use Rattle.work_laws.proofs.Shares.{Tellings}
 use Rattle.team_words.specs.Calls.{TeamCall}
 use Rattle.omp_model.specs.declared.limits.TheConstants.{STEPS_OF_A_TURN, TURNS, TURN_LIMIT}
@@ -15,9 +15,9 @@ use Rattle.team_calls.proofs.CalledSteps.{OnCalls, past-called, walk-called}
 use Rattle.omp_model.specs.declared.event.Halt.TheVariants.{Limit}
 use Rattle.guard_laws.proofs.DealtRuns.{IsMet}
 use Rattle.omp_model.specs.declared.event.Halt.{Halt}
-use Rattle.omp_model.specs.Going.{Going, Halts, Happens, Nothing, effect_of, fault_of, going_in_code, unless}
+use Rattle.omp_model.specs.EventEffects.{Going, Halts, Happens, Nothing, effect_of, fault_of, go_of_code, unless}
 use Rattle.omp_model.specs.declared.event.Event.{Event}
-use Rattle.omp_model.specs.declared.event.Arrival.TheVariants.{Comes, Steps, Waits, Meets}
+use Rattle.omp_model.specs.declared.event.Arrival.TheVariants.{CodeEvent, Steps, Waits, RuntimeEvent}
 use Rattle.omp_model.proofs.Turning.{Beside, GoOf, OfCode}
 use Rattle.omp_model.proofs.Arriving.{Arrives, Reached, arrives}
 use Rattle.omp_model.specs.declared.event.Arrival.{Arrival}
@@ -62,7 +62,7 @@ module _ (run : Run) (S : State) (met : IsMet run S) (t : ℕ) (told : Tellings)
   steps = λ q. calls_of_steps run STEPS_OF_A_TURN S t q
 
   abbrev X : World
-  X = gone_past (walk run STEPS_OF_A_TURN 0 S t).state.world t
+  X = with_masked_skipped (walk run STEPS_OF_A_TURN 0 S t).state.world t
 
   -- all calls of the turn, by its outcome
   abbrev all : TurnOutcome → AllCalls
@@ -98,7 +98,7 @@ module _ (run : Run) (S : State) (met : IsMet run S) (t : ℕ) (told : Tellings)
       }
   code-came state made (Halts halt) so is go = no-event state.world so
 
-  beside-came : (state : State) (made : ℕ) (which : Event) (halt : Option Halt) → fault_of state.world t which ≡ halt → arrival state.world t ≡ Meets which →
+  beside-came : (state : State) (made : ℕ) (which : Event) (halt : Option Halt) → fault_of state.world t which ≡ halt → arrival state.world t ≡ RuntimeEvent which →
       So state.world (λ q. calls q ++ steps q) →
       let now = with_going state made t (unless halt which (effect_of state.world t which)) in Came now.state.world (all now.outcome) now.outcome
   beside-came state made which (Some halt) fault is so = no-event state.world so
@@ -116,11 +116,11 @@ module _ (run : Run) (S : State) (met : IsMet run S) (t : ℕ) (told : Tellings)
       Came (after_steps run w.state w.made t came).state.world (all (after_steps run w.state w.made t came).outcome) (after_steps run w.state w.made t came).outcome
   steps-came Waits is = none-came w.state w.made walked-so
   steps-came Steps is = none-came w.state w.made walked-so
-  steps-came Comes is =
-      code-came (going_past w.state t) w.made (going_in_code run (gone_past w.state.world t) t)
+  steps-came CodeEvent is =
+      code-came (state_past_masked w.state t) w.made (go_of_code run (with_masked_skipped w.state.world t) t)
       (past-called run S met t told outside w.state.world (λ q. calls q ++ steps q) walked-so) refl
       (λ e after happens. OfCode (comes-past w.state.world t is) happens)
-  steps-came (Meets which) is = beside-came w.state w.made which (fault_of w.state.world t which) refl is walked-so
+  steps-came (RuntimeEvent which) is = beside-came w.state w.made which (fault_of w.state.world t which) refl is walked-so
 
   stop-came : (stop : Option Halt) → Came (after_walk run w t stop).state.world (all (after_walk run w t stop).outcome) (after_walk run w t stop).outcome
   stop-came (Some halt) = no-event w.state.world walked-so

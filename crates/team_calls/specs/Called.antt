@@ -25,9 +25,9 @@ use Rattle.omp_model.specs.declared.history.Entry.{Entry}
 use Rattle.omp_model.specs.declared.history.What.{What}
 use Rattle.omp_model.specs.declared.history.What.TheVariants.{Back, Go, Put}
 use Rattle.omp_model.specs.declared.limits.TheConstants.{STEPS_OF_A_TURN, TURN_LIMIT}
-use Rattle.omp_model.specs.Changes.{gone_past}
+use Rattle.omp_model.specs.Changes.{with_masked_skipped}
 use Rattle.omp_model.specs.Gates.{arrival, is_barrier}
-use Rattle.omp_model.specs.Going.{barrier_met, told, work_met}
+use Rattle.omp_model.specs.EventEffects.{barrier_met, told, work_met}
 use Rattle.omp_model.specs.Legal.{after, entered}
 use Rattle.omp_model.specs.Members.{current_index, current_region, moment_of, view_of}
 use Rattle.omp_model.specs.Silent.{Goes, Silence, Stops, silent_step}
@@ -107,7 +107,7 @@ calls_of_turn run S t r =
     if nat_le TURN_LIMIT (S.turns + 1)
     then []
     else calls_of_steps run STEPS_OF_A_TURN S t r
-    ++ calls_of_outcome run (gone_past (walk run STEPS_OF_A_TURN 0 S t).state.world t) t r (turn run S t).outcome
+    ++ calls_of_outcome run (with_masked_skipped (walk run STEPS_OF_A_TURN 0 S t).state.world t) t r (turn run S t).outcome
 
 -- an entry of a history
 abbrev pub calls_of_callback : World → ℕ → ℕ → Option Callback → List TeamCall

@@ -33,7 +33,7 @@ use Rattle.omp_model.proofs.Recording.{HasRun-start, HasRun-after, HasRun-alone,
 use Rattle.team_run.specs.Standing.{AreSilent, HearsOwn, HearsSilent, StandsAt, StopsAt}
 use Rattle.omp_machine.proofs.Storing.{Inside, inside-put}
 use Rattle.omp_machine.proofs.Telling.{IsTold, IsUntold}
-use Rattle.step_book.specs.Pages.{Pages, state_of, with_entries}
+use Rattle.step_book.specs.BookView.{BookView, state_of, with_entries}
 use Rattle.step_book.specs.Visit.{turn_visit}
 use Rattle.step_book.proofs.Telling.{HasUntold, IsAlone}
 use Rattle.step_book.proofs.Visiting.{inside-told}
@@ -358,12 +358,12 @@ visited-unsaid run from H t stands turns unsaid stands_for parts =
     visited-untold run (after run H) from H t stands turns stands_for parts unsaid.event unsaid.happens unsaid.unregistered
 
 -- a visit that told nothing: what was added, and what is so afterwards
-pub record QuietVisit {P : Type 0} (stands_for : P → Record → Type 0) (book next : Pages) (t : ℕ) (parts : List P) : Type 0 where
+pub record QuietVisit {P : Type 0} (stands_for : P → Record → Type 0) (book next : BookView) (t : ℕ) (parts : List P) : Type 0 where
   pub added : List Entry
   pub whole : next ≡ with_entries book added
   pub visited : Visited stands_for book.run book.history t parts parts (book.history ++ added)
 
-module _ (book next : Pages) (from t : ℕ) (stands : StandsAt book.run (state_of book) from book.history) (turns : first_enabled book.run (state_of book) from ≡ Some t) (added : next ≡ with_entries book (turn_visit book t).added) {P : Type 0} (stands_for : P → Record → Type 0) (parts : List P) where
+module _ (book next : BookView) (from t : ℕ) (stands : StandsAt book.run (state_of book) from book.history) (turns : first_enabled book.run (state_of book) from ≡ Some t) (added : next ≡ with_entries book (turn_visit book t).added) {P : Type 0} (stands_for : P → Record → Type 0) (parts : List P) where
   pub alone-visit : IsAlone book t → QuietVisit stands_for book next t parts
   alone-visit alone =
       record {

@@ -5,7 +5,7 @@ ghost use Rattle.omp_model.specs.Gates.{arrival};
 ghost use Rattle.omp_model.specs.Serial.{first_enabled};
 ghost use Rattle.omp_model.specs.Cause.{cause_of};
 ghost use Rattle.step_book.specs.Owing.{Owes};
-ghost use Rattle.step_book.specs.Pages.{state_of};
+ghost use Rattle.step_book.specs.BookView.{state_of};
 ghost use Rattle.team_run.specs.Serving.{Answers, OnlyUnheard, AreSame, ServesTo};
 ghost use Rattle.team_run.specs.Standing.{StandsAt, StopsAt};
 

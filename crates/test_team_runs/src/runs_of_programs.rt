@@ -43,7 +43,8 @@ const RUNS: &[Run] = &[
     },
     // A lock is initialised, asked for, acquired, and asked for again.
     Run {
-        text: b"#include <omp.h>\nomp_lock_t l;\nint main(void) {\nomp_init_lock(&l);\nomp_set_lock(&l);\nomp_set_lock(&l);\nreturn 0;\n}\n",
+        text: b"#include <omp.h>\nomp_lock_t l;\nint main(void) {\n\
+            omp_init_lock(&l);\nomp_set_lock(&l);\nomp_set_lock(&l);\nreturn 0;\n}\n",
         threads: 1,
         cause: Cause::Deadlock,
         printed: b"",

@@ -1,1 +1,2 @@
 mod Controls
+mod Answered

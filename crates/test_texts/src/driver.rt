@@ -12,8 +12,8 @@ ghost use Rattle.c_model.specs.Begin.{created_construct};
 ghost use Rattle.c_model.specs.Copies.{with_task_cells};
 ghost use Rattle.c_model.specs.Occurring.{IsAskOfNext};
 ghost use Rattle.c_steps.specs.Beginning.{IsCreation};
-ghost use Rattle.c_steps.specs.Held.{bound_in, task_at};
-ghost use Rattle.c_steps.specs.Made.{IsMadeFor};
+ghost use Rattle.c_steps.specs.ControlView.{bound_in, task_at};
+ghost use Rattle.c_steps.specs.OfProgram.{IsMadeFor};
 ghost use Rattle.c_steps.specs.Passing.{IsEventOfNext};
 
 use crate::account::{Account, End, Parts};
@@ -57,7 +57,7 @@ impl Model for Driver {
     ghost use Rattle.std.specs.List.{All};
     ghost use Rattle.c_syntax.specs.language.Numbered.{TreeView};
     ghost use Rattle.c_syntax.specs.workings.Codes.{tree_view_code};
-    ghost use Rattle.c_steps.specs.Made.{IsMadeFor};
+    ghost use Rattle.c_steps.specs.OfProgram.{IsMadeFor};
 
     ghost Value = { TreeView };
 

@@ -5,8 +5,8 @@ ghost use Rattle.c_syntax.specs.language.Tree.{Tree};
 ghost use Rattle.c_model.specs.declared.question.Answer.TheVariants as of_answer;
 ghost use Rattle.c_model.specs.Answers.{AnswersFirst, IsChunkAnswer, IsSectionAnswer};
 ghost use Rattle.c_model.specs.Occurring.{IsAskOfNext};
-ghost use Rattle.c_steps.specs.Held.{task_at};
-ghost use Rattle.c_steps.specs.Made.{IsMadeFor};
+ghost use Rattle.c_steps.specs.ControlView.{task_at};
+ghost use Rattle.c_steps.specs.OfProgram.{IsMadeFor};
 
 use c_model::{Answer, Ask, Point};
 use c_steps::{Code, Control};
@@ -31,7 +31,7 @@ impl Team {
     }
 
     /// The answer to what the code asks.
-    #[tactic(auto, using(c_steps::proofs::Asked::chunk_answers, c_steps::proofs::Asked::section_answers, c_model::proofs::Asking::free_answers_first), unfolding(c_model::specs::Answers::IsLockAnswer))]
+    #[tactic(auto, using(crate::proofs::Answered::first_answers_cases), unfolding(c_model::specs::Answers::IsLockAnswer))]
     pub fn answer(&mut self, code: &Code, control: &Control, ask: Ask) -> Answer
         requires { IsMadeFor code.now control.now }
         ensures { (tree : Tree) → IsAskOfNext ask tree (task_at code.now control.now).todo →

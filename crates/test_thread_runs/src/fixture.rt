@@ -1,7 +1,7 @@
 //! What both tests need: programs, an answer, and passes in order.
 
 ghost use Rattle.std.specs.Prelude.{◌≡◌, ◌<◌, ℕ, IsTrue, length, get_or};
-ghost use Rattle.step_book.specs.Sharing.{Sight};
+ghost use Rattle.step_book.specs.Sharing.{PassView};
 
 use c_check::{Program, check};
 use c_syntax::read_program;
@@ -28,7 +28,7 @@ pub(crate) fn program_of(rt: &impl Abort, alloc: Global, text: &[u8]) -> Result<
 /// Whether these are passes of so many threads, in order.
 pub(crate) fn are_in_order<K: BookName>(passes: &[Pass<K>], threads: usize) -> bool
     ensures count { IsTrue result → length passes.now ≡ threads }
-    ensures order { IsTrue result → (k : ℕ) (d : Sight) → k < threads → (get_or passes.now k d).thread ≡ k }
+    ensures order { IsTrue result → (k : ℕ) (d : PassView) → k < threads → (get_or passes.now k d).thread ≡ k }
 {
     if passes.len() != threads {
         return false;

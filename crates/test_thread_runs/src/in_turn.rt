@@ -2,7 +2,7 @@
 
 ghost use Rattle.std.specs.Prelude.{◌≡◌};
 ghost use Rattle.step_book.specs.Owing.{OwesStep};
-ghost use Rattle.step_book.specs.Sharing.{pages_of};
+ghost use Rattle.step_book.specs.Sharing.{book_after};
 
 use crate::fixture::{STEPS, are_in_order, program_of};
 use omp_codes::callbacks::PARALLEL_BEGIN;
@@ -149,7 +149,7 @@ fn goes_on<R: Wait + Abort, K: BookName>(rt: &R, book: &SharedBook<K>, pass: &mu
 
 /// A visit, which finds memory.
 fn step_of<R: Wait + Abort, K: BookName>(rt: &R, book: &SharedBook<K>, pass: &mut Pass<K>) -> Step
-    ensures owes { OwesStep (pages_of K.run pass.new.seen pass.new.ended) pass.new.thread result }
+    ensures owes { OwesStep (book_after K.run pass.new.seen pass.new.ended) pass.new.thread result }
 {
     match book.go(rt, pass) {
         Ok(step) => step,

@@ -14,7 +14,7 @@ use Rattle.omp_model.specs.Legal.{after}
 use Rattle.step_book.specs.declared.closed.Closed.{Closed}
 use Rattle.step_book.specs.Owing.{NotBy}
 use Rattle.step_book.specs.Rule.{NoneBy, entries_of}
-use Rattle.step_book.specs.Sharing.{AreOwn, IsClosed, Sight, any_ended, fresh_pass}
+use Rattle.step_book.specs.Sharing.{AreOwn, IsClosed, PassView, any_ended, fresh_pass}
 use Rattle.step_book.proofs.Others.{entries-append, holds-others, own-back}
 use Rattle.thread_run.specs.Driving.{IsDriven}
 use Rattle.thread_run.specs.Drivers.{AreDrivers, AreFor, AreKept, HaveServed, IsDriver}
@@ -47,7 +47,7 @@ module _ {L : Type 0} (all yielded behind rest : List L) (one : L) (whole : yiel
 
   -- one more has come back
   pub finish-more :
-      {P : Type 0} (stands_for : P → Record → Type 0) (Same : P → P → Type 0) (run : Run) (is : ℕ → P → L → Type 0) (first : List P) (passes : List Sight) (parts : List P) (pass : Sight) (part : P)
+      {P : Type 0} (stands_for : P → Record → Type 0) (Same : P → P → Type 0) (run : Run) (is : ℕ → P → L → Type 0) (first : List P) (passes : List PassView) (parts : List P) (pass : PassView) (part : P)
       → length passes ≡ length yielded → length parts ≡ length yielded → AreFor is first all → AreDrivers stands_for Same run first passes parts
       → ((t : ℕ) (whose : P) → is t whose one → IsDriver stands_for Same run t whose pass part) → AreDrivers stands_for Same run first (passes ++ pass ∷ []) (parts ++ part ∷ [])
   finish-more stands_for Same run is first passes parts pass part passed parted are there goes k d e f below = elim (cases_eq k (length yielded)) [
@@ -60,7 +60,7 @@ module _ {L : Type 0} (all yielded behind rest : List L) (one : L) (whole : yiel
 
 module _ {P : Type 0} (stands_for : P → Record → Type 0) (Same : P → P → Type 0) (run : Run) where
   -- a driver before its first visit
-  driver-first : ((part : P) → Same part part) → (t : ℕ) (first_part part : P) (pass : Sight) → pass ≡ fresh_pass t → part ≡ first_part → IsDriver stands_for Same run t first_part pass part
+  driver-first : ((part : P) → Same part part) → (t : ℕ) (first_part part : P) (pass : PassView) → pass ≡ fresh_pass t → part ≡ first_part → IsDriver stands_for Same run t first_part pass part
   driver-first itself t first_part part pass fresh same =
       let outside : pending_at (first run) t ≡ None = outside-first run.threads t in
       let driven : IsDriven stands_for Same run first_part (fresh_pass t) first_part = record {
@@ -73,13 +73,13 @@ module _ {P : Type 0} (stands_for : P → Record → Type 0) (Same : P → P →
       rw (fresh, same) (record { thread = refl; driven = driven })
 
   -- all of them
-  pub drivers-first : ((part : P) → Same part part) → (parts : List P) (passes : List Sight) → length parts ≡ run.threads → length passes ≡ run.threads → ((k : ℕ) (d : Sight) → k < run.threads → get_or passes k d ≡ fresh_pass k)
+  pub drivers-first : ((part : P) → Same part part) → (parts : List P) (passes : List PassView) → length parts ≡ run.threads → length passes ≡ run.threads → ((k : ℕ) (d : PassView) → k < run.threads → get_or passes k d ≡ fresh_pass k)
       → AreDrivers stands_for Same run parts passes parts
   drivers-first itself parts passes many count fresh k d e f below =
       driver-first itself k (get_or parts k e) (get_or parts k f) (get_or passes k d) (fresh k d (omega (arith, below, count))) (get_or_default parts k f e (omega (arith, below, count, many)))
 
   -- the next driver, where a loop has gone through the passes and parts up to it
-  pub driver-next : (all yielded behind rest : List Sight) (pass : Sight) → yielded ++ behind ≡ all → behind ≡ pass ∷ rest → (parts : List P) (part : P) (n : ℕ) → n ≡ length yielded → ((d : P) → part ≡ get_or parts (length yielded) d)
+  pub driver-next : (all yielded behind rest : List PassView) (pass : PassView) → yielded ++ behind ≡ all → behind ≡ pass ∷ rest → (parts : List P) (part : P) (n : ℕ) → n ≡ length yielded → ((d : P) → part ≡ get_or parts (length yielded) d)
       → AreDrivers stands_for Same run parts all parts → (e : P) → IsDriver stands_for Same run n (get_or parts n e) pass part
   driver-next all yielded behind rest pass whole next parts part n same is are e =
       let here = are (length yielded) pass e e (item-below all yielded behind rest pass whole next) in
@@ -109,7 +109,7 @@ kept-then is slots between others as_many one two k d t whose below there = two 
 -- What a closed book says.
 
 -- nothing is heard on a thread that the run doesn't have
-hears-own : (run : Run) (passes : List Sight) (history : List Entry) → IsClosed run passes history → HearsOwn run history
+hears-own : (run : Run) (passes : List PassView) (history : List Entry) → IsClosed run passes history → HearsOwn run history
 hears-own run passes history closed k past =
     let others : NoneBy k closed.all = λ i d less same. let below = closed.below i d less in omega (arith, below, same, past) in
     ap (λ history. heard_of run history k) closed.entries ∙ heard-others run [] (entries_of closed.all) k (holds-others k closed.all closed.own others)
@@ -121,16 +121,16 @@ cause-known true (Some cause) found is = λ other. let same : cause ≡ causes.M
 cause-known false None found is = tt
 cause-known false (Some cause) found is = λ other. sym is
 
-any-at : (passes : List Sight) (k : ℕ) (d : Sight) → k < length passes → (get_or passes k d).ended ≡ true → any_ended passes ≡ true
+any-at : (passes : List PassView) (k : ℕ) (d : PassView) → k < length passes → (get_or passes k d).ended ≡ true → any_ended passes ≡ true
 any-at [] k d below ended = absurd (omega arith)
 any-at (pass ∷ rest) zero d below ended = or_left pass.ended (any_ended rest) ended
 any-at (pass ∷ rest) (suc k) d below ended = or_right pass.ended (any_ended rest) (any-at rest k d (omega arith) ended)
 
-module _ {P : Type 0} (stands_for : P → Record → Type 0) (Same : P → P → Type 0) (run : Run) (parts others : List P) (passes : List Sight) (closed : Closed) (p : P)
+module _ {P : Type 0} (stands_for : P → Record → Type 0) (Same : P → P → Type 0) (run : Run) (parts others : List P) (passes : List PassView) (closed : Closed) (p : P)
     (count : length parts ≡ run.threads) (passed : length passes ≡ run.threads) (back : length others ≡ run.threads)
     (drivers : AreDrivers stands_for Same run parts passes others) (is_closed : IsClosed run passes closed.history)
     (text : closed.text.items ≡ (after run closed.history).world.store.text) (cause_is : closed.cause ≡ (if any_ended passes then Some causes.Memory else cause_of run closed.history)) where
-  none : Sight
+  none : PassView
   none = fresh_pass 0
 
   driver : (k : ℕ) → k < run.threads → IsDriver stands_for Same run k (get_or parts k p) (get_or passes k none) (get_or others k p)

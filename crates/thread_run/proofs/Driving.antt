@@ -29,9 +29,9 @@ use Rattle.step_book.specs.declared.hold.Hold.{Hold}
 use Rattle.step_book.specs.declared.step.Step.{Step}
 use Rattle.step_book.specs.declared.step.Step.TheVariants.{Told, Quiet, NotYet, Ended}
 use Rattle.step_book.specs.Owing.{NotBy, Owes}
-use Rattle.step_book.specs.Pages.{Pages, state_of}
+use Rattle.step_book.specs.BookView.{BookView, state_of}
 use Rattle.step_book.specs.Rule.{entries_of}
-use Rattle.step_book.specs.Sharing.{Answers, Goes, Grows, IsHold, Sight, pages_of}
+use Rattle.step_book.specs.Sharing.{AnswersThen, VisitsAfterOthers, AddsHold, IsHold, PassView, book_after}
 use Rattle.step_book.specs.Steps.{hold_by}
 use Rattle.step_book.specs.Visit.{Visit, idle_by, idle_step, is_turn, turn_visit, visit}
 use Rattle.step_book.proofs.Histories.{after-append}
@@ -90,7 +90,7 @@ calm-untold run history t event below outside happens unregistered =
       outside = ap (λ (S : State). pending_at S t) (after-append run (first run) history (go_at t ∷ back_at t ∷ [])) ∙ back-outside (turn run S t).state t;
     }
 
-calm-turn : (book : Pages) (t : ℕ) → t < book.run.threads → pending_at (state_of book) t ≡ None → (step : Step) → (turn_visit book t).step ≡ step → ((seq : ℕ) (call : Call) (snapshot : Snapshot) → (turn_visit book t).step ≡ Told seq call snapshot → ⊥) → IsCalm book.run book.history (turn_visit book t).added t
+calm-turn : (book : BookView) (t : ℕ) → t < book.run.threads → pending_at (state_of book) t ≡ None → (step : Step) → (turn_visit book t).step ≡ step → ((seq : ℕ) (call : Call) (snapshot : Snapshot) → (turn_visit book t).step ≡ Told seq call snapshot → ⊥) → IsCalm book.run book.history (turn_visit book t).added t
 calm-turn book t below outside (Told seq call snapshot) is none = absurd (none seq call snapshot is)
 calm-turn book t below outside Quiet is none = elim (quiet-step book t is) [
   | inl alone ↦ rw alone.added_is (calm-alone book.run book.history t outside alone.none)
@@ -101,7 +101,7 @@ calm-turn book t below outside (Ended cause) is none =
     let alone = ended-step book t cause is in rw alone.added_is (calm-alone book.run book.history t outside alone.none)
 
 -- a visit that tells of no event
-calm-visit : (book : Pages) (t : ℕ) → t < book.run.threads → pending_at (state_of book) t ≡ None → ((seq : ℕ) (call : Call) (snapshot : Snapshot) → (visit book t).step ≡ Told seq call snapshot → ⊥) → IsCalm book.run book.history (visit book t).added t
+calm-visit : (book : BookView) (t : ℕ) → t < book.run.threads → pending_at (state_of book) t ≡ None → ((seq : ℕ) (call : Call) (snapshot : Snapshot) → (visit book t).step ≡ Told seq call snapshot → ⊥) → IsCalm book.run book.history (visit book t).added t
 calm-visit book t below outside none = elim (is_turn book t) as (λ b. is_turn book t ≡ b → IsCalm book.run book.history (visit book t).added t) [
   | true ↦ λ is.
       let same = visit-turn book t is in
@@ -110,7 +110,7 @@ calm-visit book t below outside none = elim (is_turn book t) as (λ b. is_turn b
 ] refl
 
 -- a visit that tells of an event has its Go
-idle-untold : (book : Pages) (seq : ℕ) (call : Call) (snapshot : Snapshot) → idle_step book ≡ Told seq call snapshot → ⊥
+idle-untold : (book : BookView) (seq : ℕ) (call : Call) (snapshot : Snapshot) → idle_step book ≡ Told seq call snapshot → ⊥
 idle-untold book seq call snapshot = by book.ended (Rattle.omp_model.specs.Cause.cause_of book.run book.history)
   where
     by : (ended : Bool) (cause : Option Cause) → (if◌then◌else◌ {A = Step} ended (Ended causes.Memory) (idle_by cause)) ≡ Told seq call snapshot → ⊥
@@ -118,7 +118,7 @@ idle-untold book seq call snapshot = by book.ended (Rattle.omp_model.specs.Cause
     by false (Some cause) told = cc
     by false None told = cc
 
-told-added : (book : Pages) (t seq : ℕ) (call : Call) (snapshot : Snapshot) → (visit book t).step ≡ Told seq call snapshot → (visit book t).added ≡ go_at t ∷ []
+told-added : (book : BookView) (t seq : ℕ) (call : Call) (snapshot : Snapshot) → (visit book t).step ≡ Told seq call snapshot → (visit book t).added ≡ go_at t ∷ []
 told-added book t seq call snapshot told = elim (is_turn book t) as (λ b. is_turn book t ≡ b → (visit book t).added ≡ go_at t ∷ []) [
   | true ↦ λ is.
       let same = visit-turn book t is in
@@ -127,7 +127,7 @@ told-added book t seq call snapshot told = elim (is_turn book t) as (λ b. is_tu
 ] refl
 
 -- the history that the pass has seen after a hold
-pub hold-entries : (before later : Sight) (between : List Hold) (entries : List Entry) → IsHold before later between entries → entries_of later.seen ≡ (entries_of before.seen ++ entries_of between) ++ entries
+pub hold-entries : (before later : PassView) (between : List Hold) (entries : List Entry) → IsHold before later between entries → entries_of later.seen ≡ (entries_of before.seen ++ entries_of between) ++ entries
 hold-entries before later between entries hold =
     ap entries_of hold.seen ∙ entries-append (before.seen ++ between) (hold_by before.thread entries ∷ [])
     ∙ ap (λ front. front ++ (entries ++ [])) (entries-append before.seen between) ∙ ap (λ more. (entries_of before.seen ++ entries_of between) ++ more) (append-nil entries)
@@ -149,14 +149,14 @@ legal-behind run S [] ys legal = legal
 legal-behind run S (entry ∷ xs) ys legal = legal-behind run (entered run S entry) xs ys legal.1
 
 module _ {P : Type 0} (stands_for : P → Record → Type 0) (Same : P → P → Type 0) (run : Run) (whose : P) where
-  abbrev Driven : Sight → P → Type 0
+  abbrev Driven : PassView → P → Type 0
   Driven pass part = IsDriven stands_for Same run whose pass part
 
-  abbrev Inside : Sight → P → Type 0
+  abbrev Inside : PassView → P → Type 0
   Inside pass part = IsInside stands_for Same run whose pass part
 
   -- others' entries change nothing
-  pub driven-others : (pass later : Sight) (part : P) (more : List Entry) → NotBy pass.thread more → later.thread ≡ pass.thread → entries_of later.seen ≡ entries_of pass.seen ++ more → (pass.ended ≡ true → later.ended ≡ true) → Driven pass part → Driven later part
+  pub driven-others : (pass later : PassView) (part : P) (more : List Entry) → NotBy pass.thread more → later.thread ≡ pass.thread → entries_of later.seen ≡ entries_of pass.seen ++ more → (pass.ended ≡ true → later.ended ≡ true) → Driven pass part → Driven later part
   driven-others pass later part more none thread seen ended driven =
       record {
         unheard = driven.unheard;
@@ -167,34 +167,34 @@ module _ {P : Type 0} (stands_for : P → Record → Type 0) (Same : P → P →
       }
 
   -- a hold without an entry
-  pub driven-grown : (pass later : Sight) (part : P) → Grows pass later [] → (pass.ended ≡ true → later.ended ≡ true) → Driven pass part → Driven later part
+  pub driven-grown : (pass later : PassView) (part : P) → AddsHold pass later [] → (pass.ended ≡ true → later.ended ≡ true) → Driven pass part → Driven later part
   driven-grown pass later part grows ended driven =
       driven-others pass later part (entries_of grows.between) grows.is_hold.not_by grows.is_hold.thread (hold-entries pass later grows.between [] grows.is_hold ∙ append-nil _) ended driven
 
   -- a pass that hasn't ended the run is inside no callback
-  not-unheard : (pass : Sight) (part : P) → pass.ended ≡ false → (driven : Driven pass part) → driven.unheard ≡ false
+  not-unheard : (pass : PassView) (part : P) → pass.ended ≡ false → (driven : Driven pass part) → driven.unheard ≡ false
   not-unheard pass part ended driven = by driven.unheard driven.over
     where
       by : (unheard : Bool) → (unheard ≡ true → pass.ended ≡ true) → unheard ≡ false
       by true over = absurd (true≢false (sym (over refl) ∙ ended))
       by false over = refl
 
-  pub outside-of : (pass : Sight) (part : P) → pass.ended ≡ false → Driven pass part → pending_at (after run (entries_of pass.seen)) pass.thread ≡ None
+  pub outside-of : (pass : PassView) (part : P) → pass.ended ≡ false → Driven pass part → pending_at (after run (entries_of pass.seen)) pass.thread ≡ None
   outside-of pass part ended driven = rw (not-unheard pass part ended driven) at driven.left
 
-  pub inside-of : (pass : Sight) (part : P) → pass.ended ≡ false → Driven pass part → Inside pass part
+  pub inside-of : (pass : PassView) (part : P) → pass.ended ≡ false → Driven pass part → Inside pass part
   inside-of pass part ended driven = record { hears = rw (not-unheard pass part ended driven) at driven.hears; same_is = driven.same_is }
 
-  pub driven-open : (pass : Sight) (part : P) → pending_at (after run (entries_of pass.seen)) pass.thread ≡ None → Inside pass part → Driven pass part
+  pub driven-open : (pass : PassView) (part : P) → pending_at (after run (entries_of pass.seen)) pass.thread ≡ None → Inside pass part → Driven pass part
   driven-open pass part outside inside =
       record { unheard = false; left = outside; over = λ same. absurd (true≢false (sym same)); hears = inside.hears; same_is = inside.same_is }
 
   -- a visit that tells of no event
   pub driven-quiet :
-      (pass later : Sight) (part : P) (step : Step) → pass.thread < run.threads → pass.ended ≡ false → Goes run pass step later
+      (pass later : PassView) (part : P) (step : Step) → pass.thread < run.threads → pass.ended ≡ false → VisitsAfterOthers run pass step later
       → ((seq : ℕ) (call : Call) (snapshot : Snapshot) → step ≡ Told seq call snapshot → ⊥) → Driven pass part → Driven later part
   driven-quiet pass later part step below ended goes none driven =
-      let book = pages_of run (pass.seen ++ goes.between) goes.ended in
+      let book = book_after run (pass.seen ++ goes.between) goes.ended in
       let front = entries_of pass.seen ++ entries_of goes.between in
       let t = pass.thread in
       let whole : book.history ≡ front = entries-append pass.seen goes.between in
@@ -206,9 +206,9 @@ module _ {P : Type 0} (stands_for : P → Record → Type 0) (Same : P → P →
       driven-open later part (rw (seen, goes.is_hold.thread) calm.outside) (record { hears = λ h stands. rw same (inside.hears h stands); same_is = inside.same_is })
 
   -- a visit that tells of one
-  pub inside-told : (pass later : Sight) (part : P) (seq : ℕ) (call : Call) (snapshot : Snapshot) → pass.ended ≡ false → Goes run pass (Told seq call snapshot) later → Driven pass part → Inside later part
+  pub inside-told : (pass later : PassView) (part : P) (seq : ℕ) (call : Call) (snapshot : Snapshot) → pass.ended ≡ false → VisitsAfterOthers run pass (Told seq call snapshot) later → Driven pass part → Inside later part
   inside-told pass later part seq call snapshot ended goes driven =
-      let book = pages_of run (pass.seen ++ goes.between) goes.ended in
+      let book = book_after run (pass.seen ++ goes.between) goes.ended in
       let t = pass.thread in
       let inside = inside-of pass part ended driven in
       let more = entries_of goes.between ++ go_at t ∷ [] in
@@ -223,8 +223,8 @@ module _ {P : Type 0} (stands_for : P → Record → Type 0) (Same : P → P →
 
   -- its callback was answered
   pub driven-answered :
-      (pass later : Sight) (part next : P) (seq : ℕ) (call : Call) (snapshot : Snapshot) (reply : Reply) → Legal run (entries_of pass.seen) → pass.thread < run.threads → Owes run (entries_of pass.seen) pass.thread seq call snapshot
-      → Grows pass later (event_reply pass.thread (stores_of reply snapshot)) → ((h : Record) → stands_for part h → stands_for next (told h (item_of seq pass.thread call snapshot reply))) → ((first second third : P) → Same first second → Same second third → Same first third) → Same part next → Inside pass part → Driven later next
+      (pass later : PassView) (part next : P) (seq : ℕ) (call : Call) (snapshot : Snapshot) (reply : Reply) → Legal run (entries_of pass.seen) → pass.thread < run.threads → Owes run (entries_of pass.seen) pass.thread seq call snapshot
+      → AddsHold pass later (event_reply pass.thread (stores_of reply snapshot)) → ((h : Record) → stands_for part h → stands_for next (told h (item_of seq pass.thread call snapshot reply))) → ((first second third : P) → Same first second → Same second third → Same first third) → Same part next → Inside pass part → Driven later next
   driven-answered pass later part next seq call snapshot reply legal below owed grows tells onward kept inside =
       let t = pass.thread in
       let stores = stores_of reply snapshot in
@@ -261,7 +261,7 @@ module _ {P : Type 0} (stands_for : P → Record → Type 0) (Same : P → P →
 
   -- its part found no memory
   pub driven-unheard :
-      (pass later : Sight) (part next : P) (seq : ℕ) (call : Call) (snapshot : Snapshot) → Owes run (entries_of pass.seen) pass.thread seq call snapshot → Grows pass later [] → later.ended ≡ true
+      (pass later : PassView) (part next : P) (seq : ℕ) (call : Call) (snapshot : Snapshot) → Owes run (entries_of pass.seen) pass.thread seq call snapshot → AddsHold pass later [] → later.ended ≡ true
       → ((h : Record) → stands_for part h → stands_for next (one_unheard h)) → ((first second third : P) → Same first second → Same second third → Same first third) → Same part next → Inside pass part → Driven later next
   driven-unheard pass later part next seq call snapshot owes grows ended none onward kept inside =
       let t = pass.thread in
@@ -276,22 +276,22 @@ module _ {P : Type 0} (stands_for : P → Record → Type 0) (Same : P → P →
       }
 
   -- a visit of a pass that hasn't ended the run
-  step-gone : (pass later : Sight) (part : P) (step : Step) → pass.thread < run.threads → pass.ended ≡ false → later.ended ≡ pass.ended → Goes run pass step later → Driven pass part → HasStep stands_for Same run whose later part step
+  step-gone : (pass later : PassView) (part : P) (step : Step) → pass.thread < run.threads → pass.ended ≡ false → later.ended ≡ pass.ended → VisitsAfterOthers run pass step later → Driven pass part → HasStep stands_for Same run whose later part step
   step-gone pass later part (Told seq call snapshot) below ended same goes driven = (same ∙ ended, inside-told pass later part seq call snapshot ended goes driven)
   step-gone pass later part Quiet below ended same goes driven = driven-quiet pass later part Quiet below ended goes (λ seq call snapshot told. cc) driven
   step-gone pass later part NotYet below ended same goes driven = driven-quiet pass later part NotYet below ended goes (λ seq call snapshot told. cc) driven
   step-gone pass later part (Ended cause) below ended same goes driven = driven-quiet pass later part (Ended cause) below ended goes (λ seq call snapshot told. cc) driven
 
   -- a visit, and then no memory
-  driven-ended : (pass later last : Sight) (part : P) → Grows pass later [] → later.ended ≡ pass.ended → Grows later last [] → last.ended ≡ true → Driven pass part → Driven last part
+  driven-ended : (pass later last : PassView) (part : P) → AddsHold pass later [] → later.ended ≡ pass.ended → AddsHold later last [] → last.ended ≡ true → Driven pass part → Driven last part
   driven-ended pass later last part one same two ended driven =
       driven-grown later last part two (λ over. ended) (driven-grown pass later part one (λ over. same ∙ over) driven)
 
   -- a visit of a pass
   pub come-gone :
-      {E : Type 0} (pass later : Sight) (part : P) (result : Result Step E) → pass.thread < run.threads
-      → (pass.ended ≡ true → (later ≡ pass) × IsOk result × IfOk result (λ step. step ≡ Ended causes.Memory)) → (pass.ended ≡ false → IfOk result (λ step. Goes run pass step later))
-      → OnErr result (Grows pass later []) → later.ended ≡ pass.ended → Driven pass part → HasCome stands_for Same run whose later part result
+      {E : Type 0} (pass later : PassView) (part : P) (result : Result Step E) → pass.thread < run.threads
+      → (pass.ended ≡ true → (later ≡ pass) × IsOk result × IfOk result (λ step. step ≡ Ended causes.Memory)) → (pass.ended ≡ false → IfOk result (λ step. VisitsAfterOthers run pass step later))
+      → OnErr result (AddsHold pass later []) → later.ended ≡ pass.ended → Driven pass part → HasCome stands_for Same run whose later part result
   come-gone pass later part (Ok step) below over goes memory same driven = by pass.ended refl
     where
       by : (ended : Bool) → pass.ended ≡ ended → HasStep stands_for Same run whose later part step
@@ -301,10 +301,10 @@ module _ {P : Type 0} (stands_for : P → Record → Type 0) (Same : P → P →
 
   -- its callback was answered, and then it visited again
   pub come-answered :
-      {E : Type 0} (pass later : Sight) (part next : P) (seq : ℕ) (call : Call) (snapshot : Snapshot) (reply : Reply) (result : Result Step E) → Legal run (entries_of pass.seen) → pass.thread < run.threads → pass.ended ≡ false
+      {E : Type 0} (pass later : PassView) (part next : P) (seq : ℕ) (call : Call) (snapshot : Snapshot) (reply : Reply) (result : Result Step E) → Legal run (entries_of pass.seen) → pass.thread < run.threads → pass.ended ≡ false
       → Owes run (entries_of pass.seen) pass.thread seq call snapshot
-      → IfOk result (λ step. Answers pass (event_reply pass.thread (stores_of reply snapshot)) (λ answered. Goes run answered step later))
-      → OnErr result (Answers pass (event_reply pass.thread (stores_of reply snapshot)) (λ answered. Grows answered later [])) → later.ended ≡ pass.ended
+      → IfOk result (λ step. AnswersThen pass (event_reply pass.thread (stores_of reply snapshot)) (λ answered. VisitsAfterOthers run answered step later))
+      → OnErr result (AnswersThen pass (event_reply pass.thread (stores_of reply snapshot)) (λ answered. AddsHold answered later [])) → later.ended ≡ pass.ended
       → ((h : Record) → stands_for part h → stands_for next (told h (item_of seq pass.thread call snapshot reply))) → ((first second third : P) → Same first second → Same second third → Same first third) → Same part next → Inside pass part → HasCome stands_for Same run whose later next result
   come-answered pass later part next seq call snapshot reply (Ok step) legal below open_now owes goes memory same tells onward kept inside =
       let driven = driven-answered pass goes.answered part next seq call snapshot reply legal below owes goes.grows tells onward kept inside in
@@ -315,7 +315,7 @@ module _ {P : Type 0} (stands_for : P → Record → Type 0) (Same : P → P →
 
 -- a driver whose pass's visit told of no event goes on, and its part is as it was
 pub goes-quiet :
-    {P : Type 0} (stands_for : P → Record → Type 0) (Same : P → P → Type 0) (run : Run) (pass later : Sight) (part : P) (step : Step) → later.thread ≡ pass.thread → pass.thread < run.threads → pass.ended ≡ false
-    → (pass.ended ≡ false → Goes run pass step later) → ((seq : ℕ) (call : Call) (snapshot : Snapshot) → step ≡ Told seq call snapshot → ⊥) → GoesOn stands_for Same run pass part later part
+    {P : Type 0} (stands_for : P → Record → Type 0) (Same : P → P → Type 0) (run : Run) (pass later : PassView) (part : P) (step : Step) → later.thread ≡ pass.thread → pass.thread < run.threads → pass.ended ≡ false
+    → (pass.ended ≡ false → VisitsAfterOthers run pass step later) → ((seq : ℕ) (call : Call) (snapshot : Snapshot) → step ≡ Told seq call snapshot → ⊥) → GoesOn stands_for Same run pass part later part
 goes-quiet stands_for Same run pass later part step thread below open_now goes none =
     record { thread = thread; driven = λ whose driven. driven-quiet stands_for Same run whose pass later part step below open_now (goes open_now) none driven }

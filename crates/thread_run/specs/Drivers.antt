@@ -7,7 +7,7 @@ use Rattle.omp_model.specs.State.{Run}
 use Rattle.omp_model.specs.Heard.{heard_of}
 use Rattle.omp_model.specs.Legal.{Legal, after}
 use Rattle.step_book.specs.declared.closed.Closed.{Closed}
-use Rattle.step_book.specs.Sharing.{Sight}
+use Rattle.step_book.specs.Sharing.{PassView}
 use Rattle.team_run.specs.Serving.{AreSame, called_for}
 use Rattle.team_run.specs.Standing.{HearsOwn}
 use Rattle.team_run.specs.Unheard.{LeftAt}
@@ -16,13 +16,13 @@ use Rattle.thread_run.specs.Driving.{IsDriven}
 
 -- the driver of a thread, whose part was this one at first
 pub record IsDriver {P : Type 0} (stands_for : P → Record → Type 0) (Same : P → P → Type 0) (run : Run) (t : ℕ) (first : P)
-    (pass : Sight) (part : P) : Type 0 where
+    (pass : PassView) (part : P) : Type 0 where
   pub thread : pass.thread ≡ t
   pub driven : IsDriven stands_for Same run first pass part
 
 -- a driver that runs on a thread of its own, as it was when it was started, or that the caller has
-abbrev pub IsPlaced : {P H : Type 0} → (H → Sight) → (H → P) → (P → Record → Type 0) → (P → P → Type 0) → Run → ℕ → P →
-    Result H (Sight × P) → Type 0
+abbrev pub IsPlaced : {P H : Type 0} → (H → PassView) → (H → P) → (P → Record → Type 0) → (P → P → Type 0) → Run → ℕ → P →
+    Result H (PassView × P) → Type 0
 IsPlaced pass_of part_of stands_for Same run t first (Ok running) = IsDriver stands_for Same run t first (pass_of running) (part_of running)
 IsPlaced pass_of part_of stands_for Same run t first (Err here) = IsDriver stands_for Same run t first here.0 here.1
 
@@ -35,8 +35,8 @@ abbrev pub AreFor : {P L : Type 0} → (ℕ → P → L → Type 0) → List P �
 AreFor {P = P} {L = L} is parts slots = (k : ℕ) (d : L) (e : P) → k < length slots → is k (get_or parts k e) (get_or slots k d)
 
 -- the passes and parts of all threads, in order
-abbrev pub AreDrivers : {P : Type 0} → (P → Record → Type 0) → (P → P → Type 0) → Run → List P → List Sight → List P → Type 0
-AreDrivers {P = P} stands_for Same run first passes parts = (k : ℕ) (d : Sight) (e f : P) → k < length passes →
+abbrev pub AreDrivers : {P : Type 0} → (P → Record → Type 0) → (P → P → Type 0) → Run → List P → List PassView → List P → Type 0
+AreDrivers {P = P} stands_for Same run first passes parts = (k : ℕ) (d : PassView) (e f : P) → k < length passes →
     IsDriver stands_for Same run k (get_or first k e) (get_or passes k d) (get_or parts k f)
 
 -- what is so of a list of slots is so of the other

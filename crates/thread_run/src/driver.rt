@@ -3,7 +3,7 @@
 ghost use Rattle.std.specs.Prelude.{◌≡◌, true, false, IfOk};
 ghost use Rattle.step_book.specs.Owing.{Owes, OwesStep};
 ghost use Rattle.step_book.specs.Rule.{entries_of};
-ghost use Rattle.step_book.specs.Sharing.{KeepsStep, pages_of};
+ghost use Rattle.step_book.specs.Sharing.{KeepsStep, book_after};
 ghost use Rattle.thread_run.specs.Driving.{GoesOn, HasCome, IsDriven, IsInside, is_over};
 ghost use Rattle.thread_run.specs.declared.driver.Visited.{Visited};
 
@@ -67,7 +67,7 @@ fn serve_and_go<R: Wait, K: BookName, P: ToolPart>(
 ) -> Result<Step, Memory>
     requires owes { Owes K.run (entries_of pass.old.seen) pass.old.thread seq call.now snapshot }
     ensures thread { pass.new.thread ≡ pass.old.thread }
-    ensures owes { IfOk result (λ step. OwesStep (pages_of K.run pass.new.seen pass.new.ended) pass.new.thread step) }
+    ensures owes { IfOk result (λ step. OwesStep (book_after K.run pass.new.seen pass.new.ended) pass.new.thread step) }
     ensures told { IfOk result (λ step. KeepsStep pass.new step) }
     ensures comes { (first : P) → pass.old.ended ≡ false → IsInside P.stands_for P.same K.run first pass.old part.old →
         HasCome P.stands_for P.same K.run first pass.new part.new result }

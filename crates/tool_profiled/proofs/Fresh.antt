@@ -7,7 +7,7 @@ use Rattle.tool_api.specs.Registering.{mask_of}
 use Rattle.tool_both.specs.declared.masks.Masks.{Masks}
 use Rattle.tool_both.specs.Tools.{HasTools, IsUnheard, fresh_both}
 use Rattle.tool_report.specs.Counts.{counts_of}
-use Rattle.tool_report.specs.Standing.{ProfileFor}
+use Rattle.tool_report.specs.KeeperRelation.{ProfileFor}
 use Rattle.tool_profiled.specs.declared.asked.Asked.{Asked}
 use Rattle.tool_profiled.specs.Asking.{AskedFor}
 use Rattle.tool_profiled.specs.Joining.{IsFresh, Profiled, ProfiledFor, nothing_counted}

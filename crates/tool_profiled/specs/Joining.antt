@@ -8,7 +8,7 @@ use Rattle.tool_both.specs.declared.both.Both.{Both}
 use Rattle.tool_both.specs.declared.masks.Masks.{Masks}
 use Rattle.tool_both.specs.Joined.{BothFor}
 use Rattle.tool_both.specs.Tools.{IsUnheard, fresh_both}
-use Rattle.tool_report.specs.Standing.{ProfileFor}
+use Rattle.tool_report.specs.KeeperRelation.{ProfileFor}
 use Rattle.tool_profiled.specs.declared.asked.Asked.{Asked}
 use Rattle.tool_profiled.specs.Asking.{AskedFor}
 

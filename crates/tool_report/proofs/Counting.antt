@@ -1,7 +1,7 @@
 -- How often a number stands in a list, and what is counted for each number of a list.
-use Rattle.std.proofs.Common.{◌≡◌, ℕ, zero, suc, ◌+◌, ◌<◌, ◌==◌, Bool, true, false, cond, List, [], ◌∷◌, length, map, set, get_or, refl, sym, ◌∙◌, inl, inr, arith}
+use Rattle.std.proofs.Common.{◌≡◌, ◌≢◌, ℕ, zero, suc, ◌+◌, ◌<◌, ◌==◌, Bool, true, false, cond, List, [], ◌∷◌, length, map, set, get_or, refl, sym, ◌∙◌, inl, inr, arith}
 use Rattle.std.specs.List.{sum_by}
-use Rattle.std.proofs.lemmas.Bool.{eq-eqb}
+use Rattle.std.proofs.lemmas.Bool.{eq-eqb, ne_eqb}
 use Rattle.std.proofs.lemmas.Bool.Decides.{eqb_tells}
 use Rattle.std.proofs.lemmas.List.Sums.{sum_by-cons}
 
@@ -15,6 +15,13 @@ times-at : (m place : ℕ) (ns : List ℕ) → place < length ns → get_or ns p
 times-at m place [] below is = absurd (omega arith)
 times-at m zero (n ∷ ns) below is = rw (eq-eqb m n (sym is)) (omega arith)
 times-at m (suc place) (n ∷ ns) below is = let rest = times-at m place ns (omega arith) is in omega arith
+
+-- a number that is at no place of the list stands nowhere there
+pub times-none : (m : ℕ) (ns : List ℕ) → ((k : ℕ) → k < length ns → get_or ns k 0 ≢ m) → times m ns ≡ 0
+times-none m [] none = refl
+times-none m (n ∷ ns) none =
+    let rest = times-none m ns (λ k below. none (suc k) (omega arith)) in
+    rw (ne_eqb m n (λ same. none 0 (omega arith) (sym same))) (omega arith)
 
 -- two counts that agree but at one number are the same over a list without it
 same-without : (m : ℕ) (c d : ℕ → ℕ) (ns : List ℕ) → ((n : ℕ) → (m == n) ≡ false → d n ≡ c n) → times m ns ≡ 0 → map c ns ≡ map d ns

@@ -1,5 +1,5 @@
 -- What profiles counted of the events that they share, and the report of it.
-use Rattle.std.proofs.Common.{◌≡◌, ℕ, suc, ◌+◌, ◌<◌, ◌==◌, Bool, true, false, cond, List, [], ◌∷◌, ◌++◌, length, map, set, get_or, refl, sym, ◌∙◌, ap, arith, sum, codes, length-append, if◌then◌else◌}
+use Rattle.std.proofs.Common.{◌≡◌, ◌≢◌, All, ℕ, suc, ◌+◌, ◌<◌, ◌==◌, Bool, true, false, cond, List, [], ◌∷◌, ◌++◌, length, map, set, get_or, refl, sym, ◌∙◌, ap, subst, arith, sum, codes, length-append, if◌then◌else◌}
 use Rattle.std.specs.Fmt.{decimal}
 use Rattle.std.specs.List.{filter, flat_map, sum_by, range_with_len}
 use Rattle.std.specs.List.Sorted.{IsPermutation}
@@ -10,6 +10,7 @@ use Rattle.std.proofs.lemmas.List.Concat.{length-flat_map}
 use Rattle.std.proofs.lemmas.List.Elements.{filter-append}
 use Rattle.std.proofs.lemmas.List.Sums.{sum-map, sum_by-cons, length-filter}
 use Rattle.std.proofs.lemmas.List.Sorted.{sum_by-IsPermutation, length_permutation}
+use Rattle.omp_codes.specs.Answers.{callback_name}
 use Rattle.omp_codes.specs.declared.callbacks.TheConstants.{PROFILE}
 use Rattle.ompt_calls.specs.Number.{number_of}
 use Rattle.ompt_calls.specs.declared.call.Call.{Call}
@@ -19,7 +20,7 @@ use Rattle.tool_report.specs.Counts.{count_of, counts_of}
 use Rattle.tool_report.specs.Layout.{where_some, by_thread, right_in}
 use Rattle.tool_report.specs.Order.{AreShared, AreKept}
 use Rattle.tool_report.specs.Profile.{callback_names, count_line, count_lines, thread_line, profile_of}
-use Rattle.tool_report.proofs.Counting.{times, one-more, sum-more, sum-made}
+use Rattle.tool_report.proofs.Counting.{times, times-none, one-more, sum-more, sum-made}
 use Rattle.tool_report.proofs.Gathering.{gathered-all}
 use Rattle.tool_report.proofs.Ranges.{same-lines, shifted, one-longer}
 use Rattle.tool_report.proofs.Threads.{by_thread-over, threads-shared}
@@ -43,6 +44,17 @@ once (LockDestroy kind wait_id codeptr) = refl
 once (MutexAcquire kind hint variant wait_id codeptr) = refl
 once (MutexAcquired kind wait_id codeptr) = refl
 once (Dispatch region task kind start iterations) = refl
+
+-- so it is at a place of the profile
+pub not-absent : (call : Call) (number : ℕ) (numbers : List ℕ) → number ≡ number_of call → numbers ≡ PROFILE → All (λ (listed : ℕ). listed ≢ number) numbers → ⊥
+not-absent call number numbers is are none =
+    let nowhere = times-none number numbers (λ k below. none k 0 below) in
+    let one = ap (times number) are ∙ ap (λ (n : ℕ). times n PROFILE) is ∙ once call in
+    omega arith
+
+-- the name at the place of a callback is that of the callback
+pub name-there : (place number : ℕ) → place < 17 → get_or PROFILE place 0 ≡ number → get_or callback_names place [] ≡ callback_name number
+name-there place number below is = get_or-map callback_name PROFILE place 0 [] below ∙ ap callback_name is
 
 -- the calls of a callback where one event more is the first
 count-first : (number : ℕ) (event : EventRecord) (events : List EventRecord) → count_of number (event ∷ events) ≡ cond (number_of event.call == number) 1 0 + count_of number events
@@ -203,4 +215,5 @@ shares-report events shares shared =
 
 -- the same from what is kept of the events
 pub report-is : (events : List EventRecord) (parts : List (List ℕ)) → AreKept counts_of events parts → places_text parts 17 ++ count_line (codes "total") (sum_by (λ (counts : List ℕ). sum counts) parts) ++ threads_text parts (length parts) ≡ profile_of events
-report-is events parts kept = rw (kept.kept) (shares-report events kept.shares kept.shared)
+report-is events parts kept =
+    subst (λ (all : List (List ℕ)). places_text all 17 ++ count_line (codes "total") (sum_by (λ (counts : List ℕ). sum counts) all) ++ threads_text all (length all) ≡ profile_of events) (sym kept.kept) (shares-report events kept.shares kept.shared)

@@ -1,7 +1,7 @@
 pub mod Order
 pub mod Counts
 pub mod Moments
-pub mod Standing
+pub mod KeeperRelation
 pub mod Layout
 pub mod Profile
 pub mod Timeline

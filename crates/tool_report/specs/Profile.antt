@@ -1,16 +1,14 @@
 -- The report of how many calls there were.
-use Rattle.std.specs.Prelude.{ℕ, List, [], ◌∷◌, ◌++◌, codes, length}
+use Rattle.std.specs.Prelude.{ℕ, List, [], ◌∷◌, ◌++◌, codes, length, map}
 use Rattle.std.specs.Fmt.{decimal}
+use Rattle.omp_codes.specs.Answers.{callback_name, profile}
 use Rattle.ompt_calls.specs.declared.event.EventRecord.{EventRecord}
 use Rattle.tool_report.specs.Counts.{counts_of}
 use Rattle.tool_report.specs.Layout.{by_thread, left_in, right_in}
 
 -- the names of the callbacks of the profile, by rising numbers
 abbrev pub callback_names : List (List ℕ)
-callback_names =
-    codes "thread_begin" ∷ codes "thread_end" ∷ codes "parallel_begin" ∷ codes "parallel_end" ∷ codes "task_create" ∷ codes "task_schedule"
-    ∷ codes "implicit_task" ∷ codes "sync_region_wait" ∷ codes "mutex_released" ∷ codes "work" ∷ codes "masked" ∷ codes "sync_region"
-    ∷ codes "lock_init" ∷ codes "lock_destroy" ∷ codes "mutex_acquire" ∷ codes "mutex_acquired" ∷ codes "dispatch" ∷ []
+callback_names = map callback_name profile
 
 -- a name, and a number of calls
 abbrev pub count_line : List ℕ → ℕ → List ℕ

@@ -25,7 +25,8 @@ const TASK_BLOCK: &str =
 
 /// Two sections.
 const SECTION_BLOCK: &str =
-    "#pragma omp parallel sections\n{\n#pragma omp section\n{\n#pragma omp critical\ns += 10;\n}\n#pragma omp section\n{\n#pragma omp critical\ns += 20;\n}\n}\n";
+    "#pragma omp parallel sections\n{\n#pragma omp section\n{\n#pragma omp critical\ns += 10;\n}\n\
+    #pragma omp section\n{\n#pragma omp critical\ns += 20;\n}\n}\n";
 
 /// Arithmetic.
 const SUM_BLOCK: &str = "s = s * 3 % 10007;\n";

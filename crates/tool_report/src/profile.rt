@@ -1,26 +1,24 @@
 //! A part that counts what it is told.
 
 ghost use Rattle.std.specs.Prelude.{◌≡◌, ◌<◌, [], slice_index_or, ⊤};
-ghost use Rattle.omp_codes.specs.declared.callbacks.TheConstants.{PROFILE};
+ghost use Rattle.omp_codes.specs.declared.callbacks.TheConstants.{COUNT, PROFILE};
 ghost use Rattle.ompt_calls.specs.Number.{number_of};
 ghost use Rattle.tool_report.specs.Counts.{counts_of};
-ghost use Rattle.tool_report.specs.Standing.{ProfileFor};
+ghost use Rattle.tool_report.specs.KeeperRelation.{ProfileFor};
 
 use crate::shipped::{ACTIVE, NOTHING};
+use omp_codes::callbacks::{COUNT, PROFILE};
 use ompt_calls::{Call, Reply, Snapshot};
 use std::alloc::AllocError;
 use std::marker::Model;
 use tool_api::{Memory, Registrar, ToolPart};
-
-/// How many callbacks the profile has.
-const CALLBACKS: usize = 17;
 
 /// A part that counts the calls of `callback`, and keeps nothing else of them. Contracts see it as that list of counts: one for each callback
 /// of the profile, by rising numbers.
 #[derive(Drop)]
 pub struct Profile {
     /// The counts. A count that would pass its greatest value is answered as want of memory.
-    counts: [u64; CALLBACKS],
+    counts: [u64; COUNT],
 }
 
 impl Model for Profile {
@@ -36,9 +34,7 @@ impl Profile {
     pub fn new() -> Profile
         ensures { result ≡ counts_of [] }
     {
-        Profile {
-            counts: [0; CALLBACKS],
-        }
+        Profile { counts: [0; COUNT] }
     }
 
     /// How many calls of each callback of the profile there were, by rising numbers.
@@ -52,11 +48,7 @@ impl Profile {
     pub(crate) fn count(&self, place: usize) -> u64
         ensures { result ≡ slice_index_or self.now place 0 }
     {
-        if place < CALLBACKS {
-            self.counts[place]
-        } else {
-            0
-        }
+        if place < COUNT { self.counts[place] } else { 0 }
     }
 }
 
@@ -95,25 +87,11 @@ impl ToolPart for Profile {
 /// The place of a call's callback among those of the profile.
 fn place_of(call: &Call) -> usize
     ensures place { slice_index_or PROFILE result 0 ≡ number_of call.now }
-    ensures few { result < 17 }
+    ensures few { result < COUNT }
 {
-    match call {
-        Call::ThreadBegin { .. } => 0,
-        Call::ThreadEnd { .. } => 1,
-        Call::ParallelBegin { .. } => 2,
-        Call::ParallelEnd { .. } => 3,
-        Call::TaskCreate { .. } => 4,
-        Call::TaskSchedule { .. } => 5,
-        Call::ImplicitTask { .. } => 6,
-        Call::SyncRegionWait { .. } => 7,
-        Call::MutexReleased { .. } => 8,
-        Call::Work { .. } => 9,
-        Call::Masked { .. } => 10,
-        Call::SyncRegion { .. } => 11,
-        Call::LockInit { .. } => 12,
-        Call::LockDestroy { .. } => 13,
-        Call::MutexAcquire { .. } => 14,
-        Call::MutexAcquired { .. } => 15,
-        Call::Dispatch { .. } => 16,
+    let number = call.number();
+    match PROFILE.iter().position(|listed| *listed == number) {
+        Some(place) => place,
+        None => unreachable!(),
     }
 }

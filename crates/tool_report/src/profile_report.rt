@@ -3,7 +3,7 @@
 ghost use Rattle.std.specs.Prelude.{ℕ, ◌≡◌, ◌<◌, ◌≤◌, ◌==◌, IfOk, List, [], ◌∷◌, ◌++◌, codes, length, nat_lt, slice_index_or, string_bytes, sum, true, if◌then◌else◌};
 ghost use Rattle.std.specs.Fmt.{decimal};
 ghost use Rattle.std.specs.List.{list_all, sum_by};
-ghost use Rattle.omp_codes.specs.declared.callbacks.TheConstants.{PROFILE};
+ghost use Rattle.omp_codes.specs.declared.callbacks.TheConstants.{COUNT, PROFILE};
 ghost use Rattle.ompt_calls.specs.Line.{parts_of};
 ghost use Rattle.ompt_calls.specs.Number.{number_of};
 ghost use Rattle.ompt_calls.specs.declared.call.Call.{Call};
@@ -15,28 +15,9 @@ ghost use Rattle.tool_report.specs.Profile.{callback_names, count_line, profile_
 
 use crate::merging::Memory;
 use crate::profile::Profile;
+use omp_codes::callbacks;
+use omp_codes::callbacks::COUNT;
 use std::alloc::{AllocError, Global};
-
-/// The names of the callbacks of the profile, by rising numbers.
-const NAMES: [&str; 17] = [
-    "thread_begin",
-    "thread_end",
-    "parallel_begin",
-    "parallel_end",
-    "task_create",
-    "task_schedule",
-    "implicit_task",
-    "sync_region_wait",
-    "mutex_released",
-    "work",
-    "masked",
-    "sync_region",
-    "lock_init",
-    "lock_destroy",
-    "mutex_acquire",
-    "mutex_acquired",
-    "dispatch",
-];
 
 /// The report of what these profiles counted: a line for each callback of the profile, by its number, one for all of them, and one for each
 /// thread that had a call. Part t is that of thread t. A number of calls past the greatest is answered as want of memory.
@@ -45,7 +26,7 @@ pub fn profile_text(alloc: Global, parts: &[Profile]) -> Result<Vec<u8>, Memory>
         text.items ≡ profile_of events) }
 {
     let mut text = Vec::new(alloc);
-    for place in 0..NAMES.len() {
+    for place in 0..COUNT {
         let line = count_line(alloc, name_at(place), count_at(parts, place)?)?;
         text.extend_from_slice(line.as_bytes())?;
     }
@@ -60,12 +41,12 @@ pub fn profile_text(alloc: Global, parts: &[Profile]) -> Result<Vec<u8>, Memory>
 
 /// The name of the callback at this place. It is short, and ASCII.
 fn name_at(place: usize) -> &'static str
-    requires { place < 17 }
+    requires { place < COUNT }
     ensures name { result.now ≡ slice_index_or callback_names place [] }
     ensures short { length result.now ≤ 18 }
     ensures plain { list_all (λ (byte : ℕ). nat_lt byte 128) result.now ≡ true }
 {
-    NAMES[place]
+    callbacks::name(callbacks::PROFILE[place])
 }
 
 /// A name, which is short and ASCII, and a number of calls.
@@ -125,6 +106,6 @@ fn count_of_all(parts: &[Profile]) -> Result<u64, Memory>
 
 /// A law: the name of a callback in a profile is that of its lines.
 pub fn names_are_those_of_lines()
-    ensures { (call : Call) (place : ℕ) → place < 17 → slice_index_or PROFILE place 0 ≡ number_of call →
+    ensures { (call : Call) (place : ℕ) → place < COUNT → slice_index_or PROFILE place 0 ≡ number_of call →
         slice_index_or callback_names place [] ≡ slice_index_or (parts_of call) 0 [] }
 {}

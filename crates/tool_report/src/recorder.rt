@@ -1,7 +1,7 @@
 //! A part that keeps what it is told.
 
 ghost use Rattle.std.specs.Prelude.{◌≡◌, [], ⊤};
-ghost use Rattle.tool_report.specs.Standing.{RecorderFor};
+ghost use Rattle.tool_report.specs.KeeperRelation.{RecorderFor};
 
 use crate::shipped::{ACTIVE, NOTHING};
 use ompt_calls::{Call, EventRecord, Reply, Snapshot};

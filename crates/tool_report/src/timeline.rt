@@ -1,7 +1,7 @@
 //! A part that keeps when its thread was in which state.
 
 ghost use Rattle.std.specs.Prelude.{◌≡◌, [], ⊤};
-ghost use Rattle.tool_report.specs.Standing.{TimelineFor};
+ghost use Rattle.tool_report.specs.KeeperRelation.{TimelineFor};
 
 use crate::shipped::{ACTIVE, NOTHING};
 use ompt_calls::{Call, Reply, Snapshot};

@@ -12,13 +12,14 @@ use Rattle.trace_format.specs.declared.refusal.Refusal.{Refusal}
 use Rattle.trace_format.specs.declared.trace.Header.{Header}
 use Rattle.trace_format.specs.declared.trace.TheConstants.{SEQ_LIMIT}
 use Rattle.trace_format.specs.Accepting.{Next, next_of}
-use Rattle.trace_format.specs.Decoding.{end_in, event_in, item_in}
+use Rattle.trace_format.specs.Decoding.{end_in}
 use Rattle.trace_format.specs.Flat.{SpellsItem, coming_at, next_in_code, option_in_code, passes, test_width}
 use Rattle.trace_format.specs.Items.{given}
 use Rattle.trace_format.specs.Holding.{Awaits, HasEnded, Holds}
 use Rattle.trace_format.specs.Reached.{AreAccepted, IsBytes, bytes_at, flat, stage_of}
 use Rattle.trace_format.specs.Refusing.{reason_of}
 use Rattle.trace_format.specs.Taking.{HasTaken, Stage, next_stage}
+use Rattle.trace_format.proofs.Decoded.{event_in, item_in}
 use Rattle.trace_format.proofs.Format.{IsBounded, bounded_at}
 use Rattle.trace_format.proofs.Front.{Fits, fits, spells}
 use Rattle.trace_format.proofs.Spelling.{append_bytes, nil_bytes}

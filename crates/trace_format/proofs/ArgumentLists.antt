@@ -147,6 +147,7 @@ some_iterations (a ∷ b ∷ c ∷ rest) = go (big_number 4 c == 2) refl
 pub some_argument : (which : Kind) (before : List (List ℕ)) → (bytes : List ℕ) × IsArgument which before bytes
 some_argument kind.Short before = (short 0, record { width = refl; is_bytes = spelt_bytes 4 0; accepted = refl })
 some_argument kind.Long before = (long 0, record { width = refl; is_bytes = spelt_bytes 8 0; accepted = refl })
+some_argument kind.Place before = (long 0, record { width = refl; is_bytes = spelt_bytes 8 0; accepted = refl })
 some_argument kind.Word before = (short 0 ++ long 0, record { width = refl; is_bytes = spelt_bytes 12 0; accepted = refl })
 some_argument kind.Frame before = (long 0, record { width = refl; is_bytes = spelt_bytes 8 0; accepted = refl })
 some_argument kind.OfThread before = (short 1, record { width = refl; is_bytes = spelt_bytes 4 1; accepted = refl })

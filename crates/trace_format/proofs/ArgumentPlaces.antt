@@ -4,7 +4,7 @@ use Rattle.std.proofs.lemmas.Bool.{ne_eqb}
 use Rattle.byteorder.specs.Endian.{big_number}
 use Rattle.omp_codes.specs.declared.callbacks.TheConstants.{THREAD_BEGIN, THREAD_END, PARALLEL_BEGIN, PARALLEL_END, TASK_CREATE, TASK_SCHEDULE, IMPLICIT_TASK, SYNC_REGION_WAIT, MUTEX_RELEASED, WORK, MASKED, SYNC_REGION, LOCK_INIT, LOCK_DESTROY, MUTEX_ACQUIRE, MUTEX_ACQUIRED, DISPATCH}
 use Rattle.trace_format.specs.declared.kind.Kind.{Kind}
-use Rattle.trace_format.specs.declared.kind.Kind.TheVariants.{Short, Long, Word, Frame, OfThread, Endpoint, OfSync, OfMutex, OfRelease, OfWork, OfDispatch, Iterations, Status, OfLock, Zero, ParallelFlags, TaskFlags, ImplicitFlags}
+use Rattle.trace_format.specs.declared.kind.Kind.TheVariants.{Short, Long, Place, Word, Frame, OfThread, Endpoint, OfSync, OfMutex, OfRelease, OfWork, OfDispatch, Iterations, Status, OfLock, Zero, ParallelFlags, TaskFlags, ImplicitFlags}
 use Rattle.trace_format.specs.declared.trace.Header.{Header}
 use Rattle.trace_format.specs.Accepting.{argument_next, event_next, kinds_of}
 use Rattle.trace_format.specs.Flat.{argument_of, event_coming, option_in_code}
@@ -52,19 +52,19 @@ abbrev pub all_rows : List Row
 all_rows =
     record { test = λ n. n == THREAD_BEGIN; kinds = OfThread ∷ Word ∷ [] } ∷
     record { test = λ n. n == THREAD_END; kinds = Word ∷ [] } ∷
-    record { test = λ n. n == PARALLEL_BEGIN; kinds = Word ∷ Frame ∷ Word ∷ Short ∷ ParallelFlags ∷ Long ∷ [] } ∷
-    record { test = λ n. n == PARALLEL_END; kinds = Word ∷ Word ∷ ParallelFlags ∷ Long ∷ [] } ∷
-    record { test = λ n. n == TASK_CREATE; kinds = Word ∷ Frame ∷ Word ∷ TaskFlags ∷ Zero ∷ Long ∷ [] } ∷
+    record { test = λ n. n == PARALLEL_BEGIN; kinds = Word ∷ Frame ∷ Word ∷ Short ∷ ParallelFlags ∷ Place ∷ [] } ∷
+    record { test = λ n. n == PARALLEL_END; kinds = Word ∷ Word ∷ ParallelFlags ∷ Place ∷ [] } ∷
+    record { test = λ n. n == TASK_CREATE; kinds = Word ∷ Frame ∷ Word ∷ TaskFlags ∷ Zero ∷ Place ∷ [] } ∷
     record { test = λ n. n == TASK_SCHEDULE; kinds = Word ∷ Status ∷ Word ∷ [] } ∷
     record { test = λ n. n == IMPLICIT_TASK; kinds = Endpoint ∷ Word ∷ Word ∷ Short ∷ Short ∷ ImplicitFlags ∷ [] } ∷
-    record { test = λ n. n == SYNC_REGION_WAIT || n == SYNC_REGION; kinds = OfSync ∷ Endpoint ∷ Word ∷ Word ∷ Long ∷ [] } ∷
-    record { test = λ n. n == MUTEX_RELEASED; kinds = OfRelease ∷ Short ∷ Long ∷ [] } ∷
-    record { test = λ n. n == WORK; kinds = OfWork ∷ Endpoint ∷ Word ∷ Word ∷ Long ∷ Long ∷ [] } ∷
-    record { test = λ n. n == MASKED; kinds = Endpoint ∷ Word ∷ Word ∷ Long ∷ [] } ∷
-    record { test = λ n. n == LOCK_INIT; kinds = OfLock ∷ Zero ∷ Zero ∷ Short ∷ Long ∷ [] } ∷
-    record { test = λ n. n == LOCK_DESTROY; kinds = OfLock ∷ Short ∷ Long ∷ [] } ∷
-    record { test = λ n. n == MUTEX_ACQUIRE; kinds = OfMutex ∷ Zero ∷ Zero ∷ Short ∷ Long ∷ [] } ∷
-    record { test = λ n. n == MUTEX_ACQUIRED; kinds = OfMutex ∷ Short ∷ Long ∷ [] } ∷
+    record { test = λ n. n == SYNC_REGION_WAIT || n == SYNC_REGION; kinds = OfSync ∷ Endpoint ∷ Word ∷ Word ∷ Place ∷ [] } ∷
+    record { test = λ n. n == MUTEX_RELEASED; kinds = OfRelease ∷ Short ∷ Place ∷ [] } ∷
+    record { test = λ n. n == WORK; kinds = OfWork ∷ Endpoint ∷ Word ∷ Word ∷ Long ∷ Place ∷ [] } ∷
+    record { test = λ n. n == MASKED; kinds = Endpoint ∷ Word ∷ Word ∷ Place ∷ [] } ∷
+    record { test = λ n. n == LOCK_INIT; kinds = OfLock ∷ Zero ∷ Zero ∷ Short ∷ Place ∷ [] } ∷
+    record { test = λ n. n == LOCK_DESTROY; kinds = OfLock ∷ Short ∷ Place ∷ [] } ∷
+    record { test = λ n. n == MUTEX_ACQUIRE; kinds = OfMutex ∷ Zero ∷ Zero ∷ Short ∷ Place ∷ [] } ∷
+    record { test = λ n. n == MUTEX_ACQUIRED; kinds = OfMutex ∷ Short ∷ Place ∷ [] } ∷
     record { test = λ n. n == DISPATCH; kinds = dispatched } ∷
     []
 
@@ -113,6 +113,7 @@ kind_test Iterations before bytes place h =
     rw (i.before_is, i.reads) refl
 kind_test Short before bytes place h = refl
 kind_test Long before bytes place h = refl
+kind_test Place before bytes place h = refl
 kind_test Word before bytes place h = refl
 kind_test Frame before bytes place h = refl
 kind_test OfThread before bytes place h = refl

@@ -5,11 +5,12 @@ use Rattle.trace_format.specs.declared.item.Item.{Item}
 use Rattle.trace_format.specs.declared.item.Item.TheVariants as item
 use Rattle.trace_format.specs.declared.trace.Header.{Header}
 use Rattle.trace_format.specs.declared.trace.TheConstants.{SEQ_LIMIT}
-use Rattle.trace_format.specs.Decoding.{end_in, event_in, header_in, item_in}
+use Rattle.trace_format.specs.Decoding.{end_in, header_in}
 use Rattle.trace_format.specs.Fields.{end_fields, event_fields, header_fields}
 use Rattle.trace_format.specs.Items.{item_bytes}
 use Rattle.trace_format.specs.Reached.{flat}
 use Rattle.trace_format.specs.Taking.{Stage}
+use Rattle.trace_format.proofs.Decoded.{event_in, item_in}
 use Rattle.trace_format.proofs.Ends.{end_again}
 use Rattle.trace_format.proofs.EventWhole.{bytes_of, event_again, event_begins, fields_bytes}
 use Rattle.trace_format.proofs.Headers.{header_again}

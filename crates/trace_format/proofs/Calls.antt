@@ -1,5 +1,5 @@
 -- The arguments of each callback are of the kinds of its number, and arguments of these kinds are those of a callback.
-use Rattle.std.proofs.Common.{ℕ, ◌≡◌, ◌≢◌, ◌^◌, ◌==◌, List, [], ◌∷◌, map, inl, inr, refl, sym, ◌∙◌, arith}
+use Rattle.std.proofs.Common.{ℕ, ◌≡◌, ◌≢◌, ◌^◌, ◌==◌, List, [], ◌∷◌, inl, inr, refl, sym, ◌∙◌, arith}
 use Rattle.std.proofs.lemmas.Bool.{eqb-true, or_cases}
 use Rattle.byteorder.specs.Endian.{big_number}
 use Rattle.ompt_calls.specs.declared.argument.Argument.{Argument}

@@ -13,10 +13,10 @@ use Rattle.trace_format.specs.declared.item.Item.TheVariants as item
 use Rattle.trace_format.specs.declared.trace.Header.{Header}
 use Rattle.trace_format.specs.declared.trace.TheConstants.{SEQ_LIMIT}
 use Rattle.trace_format.specs.Accepting.{event_next, kinds_of, next_of, record_next}
-use Rattle.trace_format.specs.Decoding.{call_in, event_in}
 use Rattle.trace_format.specs.Fields.{Spelt, arguments, event_fields, number, numbered_from}
 use Rattle.trace_format.specs.Reached.{AreAccepted, flat}
 use Rattle.trace_format.specs.Validity.{IsEvent, IsHeader}
+use Rattle.trace_format.proofs.Decoded.{call_in, event_in}
 use Rattle.trace_format.proofs.ArgumentLists.{Fits, StartArguments, arguments_all, arguments_follow, arguments_start, fits}
 use Rattle.trace_format.proofs.EventFields.{AreFive, arguments_come, event_accepted, event_comes, event_ends, not_zero}
 use Rattle.trace_format.proofs.Naming.{CanGoOn, IsWritten, accepted_more, bytes_in, bytes_numbered, number_fits, one_more, opened}
@@ -24,7 +24,7 @@ use Rattle.trace_format.proofs.Profile.{call_again, call_from, in_its_profile, p
 use Rattle.trace_format.proofs.Spelling.{number_small, reads, reads_front, spells}
 use Rattle.trace_format.proofs.Values.{among_below}
 
-same_event : (seq thread state wait_id : ℕ) (call : Call) (event : EventRecord) → seq ≡ event.seq → thread ≡ event.thread → state ≡ event.state → wait_id ≡ event.wait_id → call ≡ event.call → record { seq = seq; thread = thread; state = state; wait_id = wait_id; call = call } ≡ event
+pub same_event : (seq thread state wait_id : ℕ) (call : Call) (event : EventRecord) → seq ≡ event.seq → thread ≡ event.thread → state ≡ event.state → wait_id ≡ event.wait_id → call ≡ event.call → record { seq = seq; thread = thread; state = state; wait_id = wait_id; call = call } ≡ event
 same_event seq thread state wait_id call event of_seq of_thread of_state of_wait of_call =
     ap (λ (n : ℕ). made n thread state wait_id call) of_seq
     ∙ ap (λ (n : ℕ). made event.seq n state wait_id call) of_thread

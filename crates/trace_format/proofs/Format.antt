@@ -6,7 +6,6 @@ use Rattle.trace_format.specs.declared.refusal.Refusal.{Refusal}
 use Rattle.trace_format.specs.declared.trace.Trace.{Trace}
 use Rattle.trace_format.specs.declared.trace.TheConstants.{SEQ_LIMIT}
 use Rattle.trace_format.specs.Accepting.{Next, next_of}
-use Rattle.trace_format.specs.Decoding.{item_in}
 use Rattle.trace_format.specs.Items.{AreWhole, IsRead, item_bytes, items_bytes}
 use Rattle.trace_format.specs.Reached.{IsAccepted, IsBytes, IsReached, bytes_at, flat, stage_of}
 use Rattle.trace_format.specs.Fields.{Spelt, spelling}
@@ -14,6 +13,7 @@ use Rattle.trace_format.specs.Refusing.{IsRefused, Refuses, reason_of}
 use Rattle.trace_format.specs.Validity.{Writes}
 use Rattle.trace_format.proofs.Beginning.{goes_of, none_over, place_next, place_over}
 use Rattle.trace_format.specs.Taking.{first_stage}
+use Rattle.trace_format.proofs.Decoded.{item_in}
 use Rattle.trace_format.proofs.Bounds.{alone, few_at}
 use Rattle.trace_format.proofs.Completed.{follow_of, good_first, good_from}
 use Rattle.trace_format.proofs.Lists.{items_bytes-append, spelling_named, split_same}

@@ -7,12 +7,12 @@ use Rattle.trace_format.specs.declared.trace.Header.{Header}
 use Rattle.trace_format.specs.declared.kind.Kind.{Kind}
 use Rattle.trace_format.specs.declared.kind.Kind.TheVariants.{Iterations}
 use Rattle.trace_format.specs.Accepting.{Next, end_next, event_next, header_next, kinds_of, next_in, next_of, record_next}
-use Rattle.trace_format.specs.Flat.{HasNumber, IsFront, SpellsItem, SpellsRecord, arguments_width, reason_width}
+use Rattle.trace_format.specs.Flat.{HasNumber, IsFront, SpellsItem, SpellsRecord, arguments_width, reason_width, total}
 use Rattle.trace_format.specs.Reached.{AreAccepted, IsAccepted, flat}
 use Rattle.trace_format.specs.Taking.{Stage}
 use Rattle.trace_format.proofs.ArgumentLists.{StartArguments, width_in}
 use Rattle.trace_format.proofs.ArgumentPlaces.{IsDispatch, dispatched, is_dispatch}
-use Rattle.trace_format.proofs.FrontWidths.{all_kinds, args_start, event_width, few_kinds, in_profile_of, next_width, none_width, start_width, total}
+use Rattle.trace_format.proofs.FrontWidths.{args_start, event_width, few_kinds, in_profile_of, next_width, none_width, start_width}
 use Rattle.trace_format.proofs.HeaderPlaces.{HeaderWidths, at_header, header_widths, read_field, width_at}
 use Rattle.trace_format.proofs.RecordPlaces.{at_end, at_event, at_record, number_width}
 use Rattle.trace_format.proofs.Widths.{few_from, good_next}
@@ -165,8 +165,7 @@ whole_event stage header number (q ∷ t ∷ s ∷ w ∷ args) goes some z acc e
     let n = big_number 1 number in
     let all = start_width [] (kinds_of n) args (args_start stage header number q t s w args goes some z acc) in
     let no_more = none_width [] (kinds_of n) args e in
-    let width = all_kinds n (in_profile_of stage header number goes some z acc.0) in
-    omega (arith, all, no_more, width, event_width stage header number q t s w args goes some z acc)
+    omega (arith, all, no_more, event_width stage header number q t s w args goes some z acc)
 
 whole_record :
     (stage : Stage) (header : Header) (number : List ℕ) (fields : List (List ℕ)) (ends : Bool) → stage.over ≡ false → stage.header ≡ Some header → (big_number 1 number == 0) ≡ ends
@@ -176,6 +175,7 @@ whole_record stage header number fields true goes some z acc e =
     record {
       number = omega (arith, long);
       end = λ f. long;
+      profile = λ other. absurd (other (number_front stage header number fields goes some acc.0 ∙ eqb-true (big_number 1 number) 0 z));
       event = λ other. absurd (other (number_front stage header number fields goes some acc.0 ∙ eqb-true (big_number 1 number) 0 z));
     }
 whole_record stage header number fields false goes some z acc e =
@@ -185,6 +185,7 @@ whole_record stage header number fields false goes some z acc e =
     record {
       number = omega (arith, long);
       end = λ f. omega (arith, long);
+      profile = λ other. rw front (in_profile_of stage header number goes some z acc.0);
       event = λ other. rw front long;
     }
 

@@ -1,26 +1,20 @@
 -- How many bytes the fields have that were accepted, and how many the arguments have that come behind them.
-use Rattle.std.proofs.Common.{ℕ, ◌≡◌, ◌≤◌, ◌+◌, ◌==◌, ◌&&◌, ◌||◌, not, inl, inr, Bool, true, false, List, [], ◌∷◌, ◌++◌, length, drop, Some, None, refl, ap, sym, ◌∙◌, length-append, true≢false, arith}
-use Rattle.std.proofs.lemmas.Bool.{agree_below_at, and_parts, eqb-true, or_cases}
+use Rattle.std.proofs.Common.{ℕ, ◌≡◌, ◌≤◌, ◌+◌, ◌==◌, ◌&&◌, inl, inr, true, false, List, [], ◌∷◌, ◌++◌, length, drop, Some, None, refl, ap, sym, ◌∙◌, length-append, true≢false, arith}
+use Rattle.std.proofs.lemmas.Bool.{and_parts, or_cases}
 use Rattle.byteorder.specs.Endian.{big_number}
 use Rattle.omp_codes.specs.Answers.{in_profile}
 use Rattle.ompt_calls.specs.Number.{is_registered}
 use Rattle.trace_format.specs.declared.kind.Kind.{Kind}
 use Rattle.trace_format.specs.declared.trace.Header.{Header}
 use Rattle.trace_format.specs.Accepting.{Next, argument_next, kinds_of, record_next, width_of}
-use Rattle.trace_format.specs.Flat.{arguments_width}
+use Rattle.trace_format.specs.Flat.{total}
 use Rattle.trace_format.specs.Reached.{AreAccepted, IsAccepted, flat}
 use Rattle.trace_format.specs.Taking.{Stage}
 use Rattle.trace_format.proofs.ArgumentLists.{StartArguments, arguments_start, fits, width_in}
 use Rattle.trace_format.proofs.ArgumentPlaces.{Row, all_rows, looked_up}
 use Rattle.trace_format.proofs.HeaderPlaces.{width_at}
-use Rattle.trace_format.proofs.Profile.{profile_small}
 use Rattle.trace_format.proofs.RecordPlaces.{at_event, at_record, number_width}
 use Rattle.trace_format.proofs.Widths.{chosen}
-
--- the bytes of arguments of these kinds
-abbrev pub total : List Kind → ℕ
-total [] = 0
-total (kind ∷ kinds) = width_of kind + total kinds
 
 abbrev pub IsFew : List Kind → Type 0
 IsFew kinds = total kinds ≤ 48
@@ -38,17 +32,6 @@ pub few_kinds : (number : ℕ) → total (kinds_of number) ≤ 48
 few_kinds number =
     few_in all_rows number
     (omega arith, (omega arith, (omega arith, (omega arith, (omega arith, (omega arith, (omega arith, (omega arith, (omega arith, (omega arith, (omega arith, (omega arith, (omega arith, (omega arith, (omega arith, (omega arith, tt))))))))))))))))
-
-abbrev has_width : ℕ → Bool
-has_width n = not (in_profile n) || total (kinds_of n) == arguments_width n
-
--- each callback of the profile has the bytes that are decoded
-pub all_kinds : (number : ℕ) → in_profile number ≡ true → total (kinds_of number) ≡ arguments_width number
-all_kinds number inside =
-    let small = profile_small number inside in
-    let same : has_width number ≡ true = agree_below_at has_width (λ n. true) 33 number refl (omega (arith, small)) in
-    let here : (total (kinds_of number) == arguments_width number) ≡ true = ap (λ (b : Bool). not b || total (kinds_of number) == arguments_width number) (sym inside) ∙ same in
-    eqb-true (total (kinds_of number)) (arguments_width number) here
 
 -- the first arguments and those that come behind them have the bytes of all
 pub start_width : (before : List (List ℕ)) (kinds : List Kind) (args : List (List ℕ)) → StartArguments before kinds args → length (flat args) + total (drop (length args) kinds) ≡ total kinds

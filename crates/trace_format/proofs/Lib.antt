@@ -3,6 +3,7 @@ pub mod Values
 pub mod ArgumentLists
 pub mod Shapes
 pub mod Calls
+pub mod OfKinds
 pub mod Profile
 pub mod Naming
 pub mod ProfileMask
@@ -35,6 +36,7 @@ pub mod Unique
 pub mod Along
 pub mod Format
 pub mod Decoded
+pub mod ReadAs
 pub mod Standing
 pub mod Widths
 pub mod FrontWidths

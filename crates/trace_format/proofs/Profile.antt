@@ -1,5 +1,5 @@
 -- The callbacks of the profile, by their numbers: what holds of each of them, and how a callback is read again from its arguments.
-use Rattle.std.proofs.Common.{ℕ, ◌≡◌, ◌≤◌, ◌==◌, ◌||◌, true, List, [], ◌∷◌, map, inl, inr, refl, sym, ap, ◌∙◌, subst, arith}
+use Rattle.std.proofs.Common.{ℕ, ◌≡◌, ◌≢◌, ◌≤◌, ◌==◌, ◌||◌, true, List, [], ◌∷◌, map, inl, inr, refl, sym, ap, ◌∙◌, subst, arith}
 use Rattle.std.proofs.lemmas.Bool.{agree_below_at, and_parts, cases_lt, eqb-true, false_from_ne_true, leb-true, or_cases}
 use Rattle.std.proofs.lemmas.Nat.Bits.{bit_at_above}
 use Rattle.std.specs.Prelude.{nat_le}
@@ -11,16 +11,17 @@ use Rattle.ompt_calls.specs.declared.call.Call.TheVariants.{ThreadBegin, ThreadE
 use Rattle.ompt_calls.specs.Arguments.{arguments_of}
 use Rattle.ompt_calls.specs.Number.{is_registered, number_of}
 use Rattle.trace_format.specs.Accepting.{kinds_of}
-use Rattle.trace_format.specs.Decoding.{call_in}
+use Rattle.trace_format.specs.Decoding.{made_from}
 use Rattle.trace_format.specs.Fields.{arguments, spell}
 use Rattle.trace_format.specs.Reached.{flat}
 use Rattle.trace_format.specs.Validity.{IsCall, is_among}
+use Rattle.trace_format.proofs.Decoded.{call_in}
 use Rattle.trace_format.proofs.ArgumentLists.{AreArguments, AreValues, spelt_values, values_from}
 use Rattle.trace_format.proofs.Calls.{IsCallOf, Row, call_values, row_1, row_16, row_17, row_2, row_20, row_21, row_23, row_24, row_25, row_26, row_27, row_3, row_32, row_4, row_5, row_6, row_7}
-use Rattle.trace_format.proofs.Shapes.{made_again, made_from, of_all}
+use Rattle.trace_format.proofs.Shapes.{made_again, of_all}
 
 -- the numbers of the profile
-abbrev numbers : List ℕ
+abbrev pub numbers : List ℕ
 numbers = 1 ∷ 2 ∷ 3 ∷ 4 ∷ 5 ∷ 6 ∷ 7 ∷ 16 ∷ 17 ∷ 20 ∷ 21 ∷ 23 ∷ 24 ∷ 25 ∷ 26 ∷ 27 ∷ 32 ∷ []
 
 abbrev pub EachOf : (ℕ → Type 0) → List ℕ → Type 0
@@ -57,6 +58,21 @@ among_numbers n inside =
     let small = profile_small n inside in
     sym (agree_below_at in_profile (is_among numbers) 33 n refl (omega arith)) ∙ inside
 
+-- no number of the profile is none of these
+abbrev pub IsNone : List ℕ → ℕ → Type 0
+IsNone [] n = Unit {0}
+IsNone (x ∷ rest) n = (n ≢ x) × IsNone rest n
+
+pub none_among : (list : List ℕ) (n : ℕ) → is_among list n ≡ true → IsNone list n → ⊥
+none_among [] n among none = cc
+none_among (x ∷ rest) n among none = elim (or_cases (n == x) (is_among rest n) among) [
+  | inl here ↦ none.0 (eqb-true n x here)
+  | inr later ↦ none_among rest n later none.1
+]
+
+pub none_other : (n : ℕ) → in_profile n ≡ true → IsNone numbers n → ⊥
+none_other n inside none = none_among numbers n (among_numbers n inside) none
+
 -- a number that has values of its kinds is that of a callback with these values
 pub call_of : (number : ℕ) → in_profile number ≡ true → (values : List Argument) → AreValues [] (kinds_of number) values → IsCallOf number values
 call_of number inside values are =
@@ -81,7 +97,7 @@ profile_bits n = elim (cases_lt n 64) [
 ]
 
 -- the callback that bytes with these values at their places are
-call_at : (call : Call) (bytes : List ℕ) → made_from 0 (kinds_of (number_of call)) bytes ≡ arguments_of call → call_in (number_of call) bytes ≡ call
+pub call_at : (call : Call) (bytes : List ℕ) → made_from 0 (kinds_of (number_of call)) bytes ≡ arguments_of call → call_in (number_of call) bytes ≡ call
 call_at (ThreadBegin kind thread) bytes e = cc
 call_at (ThreadEnd thread) bytes e = cc
 call_at (ParallelBegin task frame region requested flags codeptr) bytes e = cc

@@ -1,14 +1,9 @@
 -- The arguments of a callback are put one after the other, and fit.
 use Rattle.std.proofs.Common.{◌≡◌, ℕ, ◌+◌, ◌<◌, ◌≤◌, List, [], ◌∷◌, ◌++◌, length, map, take, drop, get_or, sym, ap, ◌∙◌, append_assoc, length-append, arith}
-use Rattle.std.specs.List.{All}
 use Rattle.std.proofs.lemmas.List.{append-nil, map-append, take-append-drop, take_more}
 use Rattle.ompt_calls.specs.declared.argument.Argument.{Argument}
 use Rattle.ompt_calls.specs.declared.argument.Argument.TheVariants as argument
-use Rattle.ompt_calls.specs.declared.call.Call.{Call}
-use Rattle.ompt_calls.specs.declared.call.Call.TheVariants.{ThreadBegin, ThreadEnd, ParallelBegin, ParallelEnd, TaskCreate, TaskSchedule, ImplicitTask, SyncRegionWait, MutexReleased, Work, Masked, SyncRegion, LockInit, LockDestroy, MutexAcquire, MutexAcquired, Dispatch}
-use Rattle.ompt_calls.specs.Arguments.{arguments_of}
 use Rattle.trace_format.specs.Fields.{spell}
-use Rattle.trace_format.specs.Fitting.{FitsArgument, FitsCall}
 use Rattle.trace_format.specs.Reached.{flat}
 use Rattle.trace_format.proofs.Lists.{flat-append}
 
@@ -46,23 +41,3 @@ put-behind old now new items i d below before one =
 
 abbrev pub no_argument : Argument
 no_argument = argument.Short 0
-
--- a callback fits whose arguments do
-pub fits-call : (call : Call) → All FitsArgument (arguments_of call) → FitsCall call
-fits-call (ThreadBegin kind thread) fits = fits 1 no_argument (omega arith)
-fits-call (ThreadEnd thread) fits = fits 0 no_argument (omega arith)
-fits-call (ParallelBegin task frame region requested flags codeptr) fits = (fits 0 no_argument (omega arith), fits 1 no_argument (omega arith), fits 2 no_argument (omega arith), fits 3 no_argument (omega arith), fits 5 no_argument (omega arith))
-fits-call (ParallelEnd region task flags codeptr) fits = (fits 0 no_argument (omega arith), fits 1 no_argument (omega arith), fits 3 no_argument (omega arith))
-fits-call (TaskCreate task frame fresh flags has_dependences codeptr) fits = (fits 0 no_argument (omega arith), fits 1 no_argument (omega arith), fits 2 no_argument (omega arith), fits 5 no_argument (omega arith))
-fits-call (TaskSchedule prior status next) fits = (fits 0 no_argument (omega arith), fits 2 no_argument (omega arith))
-fits-call (ImplicitTask endpoint region task actual index flags) fits = (fits 1 no_argument (omega arith), fits 2 no_argument (omega arith), fits 3 no_argument (omega arith), fits 4 no_argument (omega arith))
-fits-call (SyncRegionWait kind endpoint region task codeptr) fits = (fits 2 no_argument (omega arith), fits 3 no_argument (omega arith), fits 4 no_argument (omega arith))
-fits-call (MutexReleased kind wait_id codeptr) fits = (fits 1 no_argument (omega arith), fits 2 no_argument (omega arith))
-fits-call (Work kind endpoint region task count codeptr) fits = (fits 2 no_argument (omega arith), fits 3 no_argument (omega arith), fits 4 no_argument (omega arith), fits 5 no_argument (omega arith))
-fits-call (Masked endpoint region task codeptr) fits = (fits 1 no_argument (omega arith), fits 2 no_argument (omega arith), fits 3 no_argument (omega arith))
-fits-call (SyncRegion kind endpoint region task codeptr) fits = (fits 2 no_argument (omega arith), fits 3 no_argument (omega arith), fits 4 no_argument (omega arith))
-fits-call (LockInit kind hint variant wait_id codeptr) fits = (fits 3 no_argument (omega arith), fits 4 no_argument (omega arith))
-fits-call (LockDestroy kind wait_id codeptr) fits = (fits 1 no_argument (omega arith), fits 2 no_argument (omega arith))
-fits-call (MutexAcquire kind hint variant wait_id codeptr) fits = (fits 3 no_argument (omega arith), fits 4 no_argument (omega arith))
-fits-call (MutexAcquired kind wait_id codeptr) fits = (fits 1 no_argument (omega arith), fits 2 no_argument (omega arith))
-fits-call (Dispatch region task kind start iterations) fits = (fits 0 no_argument (omega arith), fits 1 no_argument (omega arith), fits 3 no_argument (omega arith), fits 4 no_argument (omega arith))

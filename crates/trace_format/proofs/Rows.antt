@@ -10,12 +10,13 @@ use Rattle.trace_format.specs.declared.item.Item.TheVariants as item
 use Rattle.trace_format.specs.declared.trace.Header.{Header}
 use Rattle.trace_format.specs.declared.trace.TheConstants.{SEQ_LIMIT}
 use Rattle.trace_format.specs.Accepting.{Next, next_of, record_next}
-use Rattle.trace_format.specs.Decoding.{end_in, event_in, item_in}
+use Rattle.trace_format.specs.Decoding.{end_in}
 use Rattle.trace_format.specs.Fields.{Spelt}
 use Rattle.trace_format.specs.Items.{item_fields}
 use Rattle.trace_format.specs.Reached.{AreAccepted, flat}
 use Rattle.trace_format.specs.Taking.{Stage}
 use Rattle.trace_format.specs.Validity.{IsEvent, IsHeader}
+use Rattle.trace_format.proofs.Decoded.{event_in, item_in}
 use Rattle.trace_format.proofs.ArgumentLists.{fits}
 use Rattle.trace_format.proofs.Ends.{end_again, end_goes, end_read, end_starts, end_written}
 use Rattle.trace_format.proofs.EventFields.{event_comes, event_read, not_zero, number_fitting, number_reads}
@@ -101,10 +102,10 @@ written stage fields goes = by_header stage.header refl
         subst (λ (s : Stage). AreAccepted s [] fields → next_of s fields ≡ None → IsWritten s fields) (as_opened stage (Some header) goes.not_over same)
         (by_number header stage.count stage.least fields)
 
-event_chosen : (header : Header) (bytes : List ℕ) → (big_number 1 bytes == 0) ≡ false → item_in (Some header) bytes ≡ item.Event (event_in bytes)
+pub event_chosen : (header : Header) (bytes : List ℕ) → (big_number 1 bytes == 0) ≡ false → item_in (Some header) bytes ≡ item.Event (event_in bytes)
 event_chosen header bytes some = rw some refl
 
-end_chosen : (header : Header) (bytes : List ℕ) → (big_number 1 bytes == 0) ≡ true → item_in (Some header) bytes ≡ item.End (end_in bytes)
+pub end_chosen : (header : Header) (bytes : List ℕ) → (big_number 1 bytes == 0) ≡ true → item_in (Some header) bytes ≡ item.End (end_in bytes)
 end_chosen header bytes none = rw none refl
 
 -- an item is read again from its bytes

@@ -3,10 +3,10 @@ use Rattle.std.proofs.Common.{◌≡◌, ℕ, ◌⊎◌, List, [], ◌∷◌, �
 use Rattle.trace_format.specs.declared.item.Item.{Item}
 use Rattle.trace_format.specs.declared.trace.TheConstants.{SEQ_LIMIT}
 use Rattle.trace_format.specs.Accepting.{Next, next_of}
-use Rattle.trace_format.specs.Decoding.{item_in}
 use Rattle.trace_format.specs.Items.{item_bytes, item_fields}
 use Rattle.trace_format.specs.Reached.{AreAccepted, IsAccepted, flat}
 use Rattle.trace_format.specs.Taking.{Stage}
+use Rattle.trace_format.proofs.Decoded.{item_in}
 use Rattle.trace_format.proofs.Back.{item_back}
 use Rattle.trace_format.proofs.Lists.{flat_bytes, split_same}
 use Rattle.trace_format.proofs.Rows.{IsItemBelow, IsOpen, bytes_in, reads_item}

@@ -9,26 +9,14 @@ use Rattle.ompt_calls.specs.declared.call.Word.{Word}
 use Rattle.trace_format.specs.declared.kind.Kind.{Kind}
 use Rattle.trace_format.specs.declared.kind.Kind.TheVariants as kind
 use Rattle.trace_format.specs.Accepting.{width_of}
-use Rattle.trace_format.specs.Decoding.{frame_at, long_at, short_at, word_at}
+use Rattle.trace_format.specs.Decoding.{Shape, long_at, made_at, made_from, shape_of, short_at}
+use Rattle.trace_format.specs.Decoding.Shape.{AsFrame, AsLong, AsShort, AsWord}
 use Rattle.trace_format.specs.Fields.{long, short, spell}
 use Rattle.trace_format.specs.Reached.{flat}
 use Rattle.trace_format.specs.Validity.{IsLong, IsShort, dispatch_kinds, endpoints, implicit_flags, mutex_kinds, release_kinds, statuses, sync_kinds, task_flags, thread_kinds, work_kinds}
 use Rattle.trace_format.proofs.ArgumentLists.{AreValues}
 use Rattle.trace_format.proofs.Spelling.{drop_field, length_spelt, reads_front}
 use Rattle.trace_format.proofs.Values.{IsValue, among_below, iterations_width, spelt_value}
-
-pub data Shape : Type 0 where
-  AsShort : Shape
-  AsLong : Shape
-  AsWord : Shape
-  AsFrame : Shape
-
-abbrev pub shape_of : Kind → Shape
-shape_of kind.Long = AsLong
-shape_of kind.Word = AsWord
-shape_of kind.Frame = AsFrame
-shape_of kind.Iterations = AsLong
-shape_of other = AsShort
 
 abbrev pub Of : Shape → Type 0
 Of AsShort = ℕ
@@ -52,6 +40,7 @@ OfEach before (which ∷ kinds) P =
 of_one : (which : Kind) (before : List Argument) (P : Argument → Type 0) → ((x : Of (shape_of which)) → IsValue which before (made (shape_of which) x) → P (made (shape_of which) x)) → (value : Argument) → IsValue which before value → P value
 of_one kind.Short before P each (argument.Short n) is = each n is
 of_one kind.Long before P each (argument.Long n) is = each n is
+of_one kind.Place before P each (argument.Long n) is = each n is
 of_one kind.Word before P each (argument.Word w) is = each w is
 of_one kind.Frame before P each (argument.Frame f) is = each f is
 of_one kind.OfThread before P each (argument.Short n) is = each n is
@@ -89,6 +78,7 @@ IsSmall (argument.Frame f) = IsShort f.exit × IsShort f.enter
 is_small : (which : Kind) (before : List Argument) (value : Argument) → IsValue which before value → IsSmall value
 is_small kind.Short before (argument.Short n) is = is
 is_small kind.Long before (argument.Long n) is = is
+is_small kind.Place before (argument.Long n) is = is
 is_small kind.Word before (argument.Word w) is = (is.0, is.1)
 is_small kind.Frame before (argument.Frame f) is = is
 is_small kind.OfThread before (argument.Short n) is = among_below thread_kinds n (2 ^ 32) refl is
@@ -106,17 +96,6 @@ is_small kind.ParallelFlags before (argument.Short n) is = omega arith
 is_small kind.TaskFlags before (argument.Short n) is = among_below task_flags n (2 ^ 32) refl is
 is_small kind.ImplicitFlags before (argument.Short n) is = among_below implicit_flags n (2 ^ 32) refl is
 is_small which before value is = absurd is
-
--- the value of this shape that begins at this place
-abbrev pub made_at : Shape → ℕ → List ℕ → Argument
-made_at AsShort place bytes = argument.Short (short_at place bytes)
-made_at AsLong place bytes = argument.Long (long_at place bytes)
-made_at AsWord place bytes = argument.Word (word_at place bytes)
-made_at AsFrame place bytes = argument.Frame (frame_at place bytes)
-
-abbrev pub made_from : ℕ → List Kind → List ℕ → List Argument
-made_from place [] bytes = []
-made_from place (which ∷ kinds) bytes = made_at (shape_of which) place bytes ∷ made_from (place + width_of which) kinds bytes
 
 pub behind : (place : ℕ) (bytes a rest : List ℕ) (n : ℕ) → drop place bytes ≡ a ++ rest → length a ≡ n → drop (place + n) bytes ≡ rest
 behind place bytes a rest n at long =

@@ -5,12 +5,12 @@ use Rattle.std.proofs.lemmas.List.{append-nil}
 use Rattle.trace_format.specs.declared.item.Item.{Item}
 use Rattle.trace_format.specs.declared.refusal.Refusal.{Refusal}
 use Rattle.trace_format.specs.Accepting.{Next, next_of}
-use Rattle.trace_format.specs.Decoding.{item_in}
 use Rattle.trace_format.specs.Items.{AreWhole, item_bytes, items_bytes}
 use Rattle.trace_format.specs.Holding.{Holds, Rests}
 use Rattle.trace_format.specs.Reached.{AreAccepted, IsBytes, IsReached, bytes_at, flat, stage_of}
 use Rattle.trace_format.specs.Refusing.{IsRefused}
 use Rattle.trace_format.specs.Taking.{HasTaken, Reading, Stage, first_stage, next_stage, stage_from}
+use Rattle.trace_format.proofs.Decoded.{item_in}
 use Rattle.trace_format.proofs.Format.{IsOver, IsPart, IsWhole, accepts, over_all, part_come, whole_item}
 
 -- the stage behind one item more

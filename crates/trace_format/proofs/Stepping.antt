@@ -3,11 +3,11 @@ use Rattle.std.proofs.Common.{ℕ, ◌≡◌, ◌<◌, ◌≤◌, ◌+◌, ◌-�
 use Rattle.std.proofs.lemmas.List.{length-take, length-take-le}
 use Rattle.trace_format.specs.declared.item.Item.{Item}
 use Rattle.trace_format.specs.declared.next.Coming.{Coming}
-use Rattle.trace_format.specs.Decoding.{item_in}
 use Rattle.trace_format.specs.Flat.{IsFront, coming_at, passes, reason_width, test_width}
 use Rattle.trace_format.specs.Holding.{HasEnded, Holds}
 use Rattle.trace_format.specs.Reached.{IsBytes, flat}
 use Rattle.trace_format.specs.Taking.{Stage, next_stage}
+use Rattle.trace_format.proofs.Decoded.{item_in}
 use Rattle.trace_format.proofs.Accepted.{Came, InRange, came, empty_of, field_length, in_range, whole_stands}
 use Rattle.trace_format.proofs.Outcomes.{Sizes, due_of, ended_of, sizes}
 use Rattle.trace_format.proofs.Standing.{of_holds}

@@ -6,12 +6,11 @@ use Rattle.std.proofs.lemmas.List.{length-drop, take-append-drop, length-take}
 use Rattle.byteorder.specs.Endian.{big_bytes, big_number}
 use Rattle.ompt_calls.specs.declared.argument.Argument.{Argument}
 use Rattle.ompt_calls.specs.declared.argument.Argument.TheVariants as argument
-use Rattle.ompt_calls.specs.declared.call.Frame.{Frame}
 use Rattle.ompt_calls.specs.declared.call.Word.{Word}
 use Rattle.trace_format.specs.declared.kind.Kind.{Kind}
 use Rattle.trace_format.specs.declared.kind.Kind.TheVariants as kind
 use Rattle.trace_format.specs.Accepting.{accepts_kind, width_of}
-use Rattle.trace_format.specs.Fields.{frame, long, short, spell, word}
+use Rattle.trace_format.specs.Fields.{long, short, spell, word}
 use Rattle.trace_format.specs.Reached.{IsBytes}
 use Rattle.trace_format.specs.Validity.{IsAmong, IsFrame, IsLong, IsShort, IsWord, endpoints, implicit_flags, dispatch_kinds, is_among, mutex_kinds, parallel_flags, release_kinds, statuses, sync_kinds, task_flags, thread_kinds, work_kinds}
 use Rattle.trace_format.proofs.Spelling.{append_bytes, drop_bytes, drop_field, length_spelt, number_small, reads, reads_first, reads_front, spells, spelt_bytes, take_bytes}
@@ -26,6 +25,7 @@ AreIterations other n = IsLong n
 abbrev pub IsValue : Kind → List Argument → Argument → Type 0
 IsValue kind.Short before (argument.Short n) = IsShort n
 IsValue kind.Long before (argument.Long n) = IsLong n
+IsValue kind.Place before (argument.Long n) = IsLong n
 IsValue kind.Word before (argument.Word w) = IsWord w
 IsValue kind.Frame before (argument.Frame f) = IsFrame f
 IsValue kind.OfThread before (argument.Short n) = IsAmong thread_kinds n
@@ -50,7 +50,7 @@ pub record IsArgument (which : Kind) (before : List (List ℕ)) (bytes : List �
   pub is_bytes : IsBytes bytes
   pub accepted : accepts_kind which before bytes ≡ true
 
-abbrev below : ℕ → List ℕ → Bool
+abbrev pub below : ℕ → List ℕ → Bool
 below limit [] = true
 below limit (x ∷ rest) = nat_lt x limit && below limit rest
 
@@ -140,6 +140,7 @@ a_short which before n four accepted = record { width = length_spelt 4 n ∙ sym
 pub spelt_value : (which : Kind) (before : List Argument) (value : Argument) → IsValue which before value → IsArgument which (map spell before) (spell value)
 spelt_value kind.Short before (argument.Short n) is = a_short kind.Short (map spell before) n refl refl
 spelt_value kind.Long before (argument.Long n) is = record { width = length_spelt 8 n; is_bytes = spelt_bytes 8 n; accepted = refl }
+spelt_value kind.Place before (argument.Long n) is = record { width = length_spelt 8 n; is_bytes = spelt_bytes 8 n; accepted = refl }
 spelt_value kind.Word before (argument.Word w) is =
     record {
       width = length_both (short w.identity) (long w.value) 4 8 (length_spelt 4 w.identity) (length_spelt 8 w.value);
@@ -194,6 +195,8 @@ from_short which before bytes width of_bytes is = record { value = argument.Shor
 pub value_of : (which : Kind) (before : List Argument) (bytes : List ℕ) → IsArgument which (map spell before) bytes → IsSpelt which before bytes
 value_of kind.Short before bytes is = from_short kind.Short before bytes is.width is.is_bytes (number_small 4 bytes is.is_bytes)
 value_of kind.Long before bytes is =
+    record { value = argument.Long (big_number 8 bytes); is_value = number_small 8 bytes is.is_bytes; spelt = spells 8 bytes is.width is.is_bytes }
+value_of kind.Place before bytes is =
     record { value = argument.Long (big_number 8 bytes); is_value = number_small 8 bytes is.is_bytes; spelt = spells 8 bytes is.width is.is_bytes }
 value_of kind.Word before bytes is =
     record {

@@ -3,11 +3,11 @@ use Rattle.std.proofs.Common.{◌≡◌, ℕ, cond, Bool, true, false, List, [],
 use Rattle.trace_format.specs.declared.item.Item.{Item}
 use Rattle.trace_format.specs.declared.trace.Header.{Header}
 use Rattle.trace_format.specs.Accepting.{Next, next_in, next_of}
-use Rattle.trace_format.specs.Decoding.{item_in}
 use Rattle.trace_format.specs.Fields.{Spelt}
 use Rattle.trace_format.specs.Reached.{IsAccepted, IsReached, flat, stage_of}
 use Rattle.trace_format.specs.Refusing.{AllStand, Stands}
 use Rattle.trace_format.specs.Taking.{Stage, first_stage}
+use Rattle.trace_format.proofs.Decoded.{item_in}
 use Rattle.trace_format.proofs.Beginning.{fields_at, place_next, place_reached}
 use Rattle.trace_format.proofs.Beyond.{stands_next}
 use Rattle.trace_format.proofs.Completed.{first_more, first_none, follow_of, open_at}

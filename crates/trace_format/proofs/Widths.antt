@@ -2,7 +2,7 @@
 use Rattle.std.proofs.Common.{ℕ, ◌≡◌, ◌≤◌, ◌+◌, Bool, cond, true, false, List, [], ◌∷◌, ◌++◌, length, Option, Some, None, subst, length-append, arith}
 use Rattle.byteorder.specs.Endian.{big_number}
 use Rattle.trace_format.specs.declared.kind.Kind.{Kind}
-use Rattle.trace_format.specs.declared.kind.Kind.TheVariants.{Long, Word, Frame, Iterations}
+use Rattle.trace_format.specs.declared.kind.Kind.TheVariants.{Long, Place, Word, Frame, Iterations}
 use Rattle.trace_format.specs.declared.trace.Header.{Header}
 use Rattle.trace_format.specs.Accepting.{Next, argument_next, end_next, event_next, header_next, kinds_of, next_in, next_of, record_next, width_of}
 use Rattle.trace_format.specs.Flat.{reason_width}
@@ -21,6 +21,7 @@ chosen P false x y p q = q
 pub width_some : (kind : Kind) → 1 ≤ width_of kind
 width_some Word = omega arith
 width_some Long = omega arith
+width_some Place = omega arith
 width_some Frame = omega arith
 width_some Iterations = omega arith
 width_some other = omega arith

@@ -1,71 +1,86 @@
 -- How a reader goes from field to field: which one comes next behind the fields of an item that has begun, how long it is, and whether its bytes may
 -- stand there. That this is so of exactly the traces is a law of the format.
-use Rattle.std.specs.Prelude.{ℕ, ◌+◌, ◌++◌, ◌==◌, ◌&&◌, ◌||◌, not, nat_le, nat_lt, if◌then◌else◌, Bool, true, List, [], ◌∷◌, drop, length, Option, Some, None}
+use Rattle.std.specs.Prelude.{ℕ, ◌≡◌, ◌+◌, ◌++◌, ◌==◌, ◌&&◌, ◌||◌, not, nat_le, nat_lt, if◌then◌else◌, Bool, true, false, List, [], ◌∷◌, drop, length, Option, Some, None}
 use Rattle.std.specs.Int.Bits.{bit_and}
 use Rattle.byteorder.specs.Endian.{big_number}
 use Rattle.omp_codes.specs.Answers.{in_profile}
 use Rattle.omp_codes.specs.States.{states}
-use Rattle.omp_codes.specs.declared.callbacks.TheConstants.{PROFILE_MASK, THREAD_BEGIN, THREAD_END, PARALLEL_BEGIN, PARALLEL_END, TASK_CREATE, TASK_SCHEDULE, IMPLICIT_TASK, SYNC_REGION_WAIT, MUTEX_RELEASED, WORK, MASKED, SYNC_REGION, LOCK_INIT, LOCK_DESTROY, MUTEX_ACQUIRE, MUTEX_ACQUIRED, DISPATCH}
+use Rattle.omp_codes.specs.declared.callbacks.TheConstants.{PROFILE_MASK, DISPATCH}
 use Rattle.omp_codes.specs.declared.dispatch_kinds.TheConstants.{SECTION}
 use Rattle.omp_codes.specs.declared.mutex_kinds.TheConstants.{LOCK}
+use Rattle.ompt_calls.specs.declared.argument.Argument.{Argument}
+use Rattle.ompt_calls.specs.declared.argument.Argument.TheVariants as argument
+use Rattle.ompt_calls.specs.declared.call.Call.{Call}
+use Rattle.ompt_calls.specs.declared.call.Call.TheVariants.{Dispatch}
 use Rattle.ompt_calls.specs.Number.{is_registered}
 use Rattle.trace_format.specs.declared.field.Field.{Field}
 use Rattle.trace_format.specs.declared.field.Field.TheVariants.{Magic, Version, Threads, Origin, Mask, Number, Seq, Numbered, Count}
 use Rattle.trace_format.specs.declared.kind.Kind.{Kind}
-use Rattle.trace_format.specs.declared.kind.Kind.TheVariants.{Short, Long, Word, Frame, OfThread, Endpoint, OfSync, OfMutex, OfRelease, OfWork, OfDispatch, Iterations, Status, OfLock, Zero, ParallelFlags, TaskFlags, ImplicitFlags}
+use Rattle.trace_format.specs.declared.kind.Kind.TheVariants.{Short, Long, Place, Word, Frame, OfThread, Endpoint, OfSync, OfMutex, OfRelease, OfWork, OfDispatch, Iterations, Status, OfLock, Zero, ParallelFlags, TaskFlags, ImplicitFlags}
 use Rattle.trace_format.specs.declared.trace.Header.{Header}
 use Rattle.trace_format.specs.declared.trace.TheConstants.{SEQ_LIMIT, FIRST_VERSION, VERSION, RECORDED, MIGRATED}
 use Rattle.trace_format.specs.Fields.{magic}
 use Rattle.trace_format.specs.Taking.{Stage}
-use Rattle.trace_format.specs.Validity.{dispatch_kinds, is_among, endpoints, implicit_flags, mutex_kinds, parallel_flags, release_kinds, statuses, sync_kinds, task_flags, thread_kinds, work_kinds}
-
--- the kinds of a callback's arguments, by its number
-abbrev pub kinds_of : ℕ → List Kind
-kinds_of number =
-    if number == THREAD_BEGIN then OfThread ∷ Word ∷ []
-    else if number == THREAD_END then Word ∷ []
-    else if number == PARALLEL_BEGIN then Word ∷ Frame ∷ Word ∷ Short ∷ ParallelFlags ∷ Long ∷ []
-    else if number == PARALLEL_END then Word ∷ Word ∷ ParallelFlags ∷ Long ∷ []
-    else if number == TASK_CREATE then Word ∷ Frame ∷ Word ∷ TaskFlags ∷ Zero ∷ Long ∷ []
-    else if number == TASK_SCHEDULE then Word ∷ Status ∷ Word ∷ []
-    else if number == IMPLICIT_TASK then Endpoint ∷ Word ∷ Word ∷ Short ∷ Short ∷ ImplicitFlags ∷ []
-    else if number == SYNC_REGION_WAIT || number == SYNC_REGION then OfSync ∷ Endpoint ∷ Word ∷ Word ∷ Long ∷ []
-    else if number == MUTEX_RELEASED then OfRelease ∷ Short ∷ Long ∷ []
-    else if number == WORK then OfWork ∷ Endpoint ∷ Word ∷ Word ∷ Long ∷ Long ∷ []
-    else if number == MASKED then Endpoint ∷ Word ∷ Word ∷ Long ∷ []
-    else if number == LOCK_INIT then OfLock ∷ Zero ∷ Zero ∷ Short ∷ Long ∷ []
-    else if number == LOCK_DESTROY then OfLock ∷ Short ∷ Long ∷ []
-    else if number == MUTEX_ACQUIRE then OfMutex ∷ Zero ∷ Zero ∷ Short ∷ Long ∷ []
-    else if number == MUTEX_ACQUIRED then OfMutex ∷ Short ∷ Long ∷ []
-    else if number == DISPATCH then Word ∷ Word ∷ OfDispatch ∷ Long ∷ Iterations ∷ []
-    else []
+use Rattle.trace_format.specs.Validity.{IsDispatched, IsFrame, IsLong, IsShort, IsWord, dispatch_kinds, is_among, endpoints, implicit_flags, mutex_kinds, parallel_flags, release_kinds, statuses, sync_kinds, task_flags, thread_kinds, work_kinds}
+pub use Rattle.trace_format.specs.Validity.{kinds_of}
 
 abbrev pub width_of : Kind → ℕ
 width_of Long = 8
+width_of Place = 8
 width_of Word = 12
 width_of Frame = 8
 width_of Iterations = 8
 width_of other = 4
 
--- which values an argument of the kind may have, behind these arguments
+-- which numbers of 32 bits an argument of the kind may be
+abbrev pub accepts_number : Kind → ℕ → Bool
+accepts_number Short n = true
+accepts_number OfThread n = is_among thread_kinds n
+accepts_number Endpoint n = is_among endpoints n
+accepts_number OfSync n = is_among sync_kinds n
+accepts_number OfMutex n = is_among mutex_kinds n
+accepts_number OfRelease n = is_among release_kinds n
+accepts_number OfWork n = is_among work_kinds n
+accepts_number OfDispatch n = is_among dispatch_kinds n
+accepts_number Status n = is_among statuses n
+accepts_number OfLock n = n == LOCK
+accepts_number Zero n = n == 0
+accepts_number ParallelFlags n = n == parallel_flags
+accepts_number TaskFlags n = is_among task_flags n
+accepts_number ImplicitFlags n = is_among implicit_flags n
+accepts_number other n = false
+
+-- which bytes an argument of the kind may have, behind these arguments
 abbrev pub accepts_kind : Kind → List (List ℕ) → List ℕ → Bool
 accepts_kind Word before bytes = not (big_number 4 bytes == 0) || big_number 8 (drop 4 bytes) == 0
-accepts_kind OfThread before bytes = is_among thread_kinds (big_number 4 bytes)
-accepts_kind Endpoint before bytes = is_among endpoints (big_number 4 bytes)
-accepts_kind OfSync before bytes = is_among sync_kinds (big_number 4 bytes)
-accepts_kind OfMutex before bytes = is_among mutex_kinds (big_number 4 bytes)
-accepts_kind OfRelease before bytes = is_among release_kinds (big_number 4 bytes)
-accepts_kind OfWork before bytes = is_among work_kinds (big_number 4 bytes)
-accepts_kind OfDispatch before bytes = is_among dispatch_kinds (big_number 4 bytes)
 accepts_kind Iterations (region ∷ task ∷ kind ∷ rest) bytes =
     if big_number 4 kind == SECTION then big_number 8 bytes == 0 else nat_le 1 (big_number 8 bytes)
-accepts_kind Status before bytes = is_among statuses (big_number 4 bytes)
-accepts_kind OfLock before bytes = big_number 4 bytes == LOCK
-accepts_kind Zero before bytes = big_number 4 bytes == 0
-accepts_kind ParallelFlags before bytes = big_number 4 bytes == parallel_flags
-accepts_kind TaskFlags before bytes = is_among task_flags (big_number 4 bytes)
-accepts_kind ImplicitFlags before bytes = is_among implicit_flags (big_number 4 bytes)
-accepts_kind other before bytes = true
+accepts_kind Iterations before bytes = true
+accepts_kind Long before bytes = true
+accepts_kind Place before bytes = true
+accepts_kind Frame before bytes = true
+accepts_kind other before bytes = accepts_number other (big_number 4 bytes)
+
+-- the argument is of the kind
+abbrev pub IsOf : Kind → Argument → Type 0
+IsOf Long (argument.Long n) = IsLong n
+IsOf Place (argument.Long n) = IsLong n
+IsOf Iterations (argument.Long n) = IsLong n
+IsOf Word (argument.Word word) = IsWord word
+IsOf Frame (argument.Frame frame) = IsFrame frame
+IsOf kind (argument.Short n) = IsShort n × (accepts_number kind n ≡ true)
+IsOf kind other = ⊥
+
+-- .. and each of its own
+abbrev pub AreOf : List Kind → List Argument → Type 0
+AreOf [] [] = Unit {0}
+AreOf (kind ∷ kinds) (argument ∷ arguments) = IsOf kind argument × AreOf kinds arguments
+AreOf kinds arguments = ⊥
+
+-- what was dispatched has so many iterations as its kind has
+abbrev pub HasItsIterations : Call → Type 0
+HasItsIterations (Dispatch region task kind start iterations) = IsDispatched kind iterations
+HasItsIterations other = Unit {0}
 
 -- the field that comes next, its length, and which bytes it may have
 pub record Next : Type 0 where

@@ -1,16 +1,21 @@
 -- The item that a reader makes of the bytes of its fields, once they are whole.
-use Rattle.std.specs.Prelude.{ℕ, ◌+◌, ◌==◌, if◌then◌else◌, List, drop, Option, Some, None}
+use Rattle.std.specs.Prelude.{ℕ, ◌≡◌, ◌≢◌, ◌+◌, List, [], ◌∷◌, drop, Option, Some, None}
 use Rattle.byteorder.specs.Endian.{big_number}
-use Rattle.omp_codes.specs.declared.callbacks.TheConstants.{THREAD_BEGIN, THREAD_END, PARALLEL_BEGIN, PARALLEL_END, TASK_CREATE, TASK_SCHEDULE, IMPLICIT_TASK, SYNC_REGION_WAIT, MUTEX_RELEASED, WORK, MASKED, SYNC_REGION, LOCK_INIT, LOCK_DESTROY, MUTEX_ACQUIRE, MUTEX_ACQUIRED}
+use Rattle.ompt_calls.specs.declared.argument.Argument.{Argument}
+use Rattle.ompt_calls.specs.declared.argument.Argument.TheVariants as argument
 use Rattle.ompt_calls.specs.declared.call.Word.{Word}
 use Rattle.ompt_calls.specs.declared.call.Frame.{Frame}
 use Rattle.ompt_calls.specs.declared.call.Call.{Call}
-use Rattle.ompt_calls.specs.declared.call.Call.TheVariants.{ThreadBegin, ThreadEnd, ParallelBegin, ParallelEnd, TaskCreate, TaskSchedule, ImplicitTask, SyncRegionWait, MutexReleased, Work, Masked, SyncRegion, LockInit, LockDestroy, MutexAcquire, MutexAcquired, Dispatch}
 use Rattle.ompt_calls.specs.declared.event.EventRecord.{EventRecord}
+use Rattle.ompt_calls.specs.Arguments.{arguments_of}
+use Rattle.ompt_calls.specs.Number.{number_of}
 use Rattle.trace_format.specs.declared.item.Item.{Item}
 use Rattle.trace_format.specs.declared.item.Item.TheVariants as item
+use Rattle.trace_format.specs.declared.kind.Kind.{Kind}
+use Rattle.trace_format.specs.declared.kind.Kind.TheVariants as kind
 use Rattle.trace_format.specs.declared.trace.EndMark.{EndMark}
 use Rattle.trace_format.specs.declared.trace.Header.{Header}
+use Rattle.trace_format.specs.Accepting.{kinds_of, width_of}
 
 -- the number, the word and the frame that begin at this place
 abbrev pub short_at : ℕ → List ℕ → ℕ
@@ -25,26 +30,37 @@ word_at place bytes = record { identity = short_at place bytes; value = long_at 
 abbrev pub frame_at : ℕ → List ℕ → Frame
 frame_at place bytes = record { exit = short_at place bytes; enter = short_at (place + 4) bytes }
 
+-- what an argument is of a kind, whatever its values
+pub data Shape : Type 0 where
+  AsShort : Shape
+  AsLong : Shape
+  AsWord : Shape
+  AsFrame : Shape
+
+abbrev pub shape_of : Kind → Shape
+shape_of kind.Long = AsLong
+shape_of kind.Place = AsLong
+shape_of kind.Word = AsWord
+shape_of kind.Frame = AsFrame
+shape_of kind.Iterations = AsLong
+shape_of other = AsShort
+
+-- the argument of this shape that begins at this place
+abbrev pub made_at : Shape → ℕ → List ℕ → Argument
+made_at AsShort place bytes = argument.Short (short_at place bytes)
+made_at AsLong place bytes = argument.Long (long_at place bytes)
+made_at AsWord place bytes = argument.Word (word_at place bytes)
+made_at AsFrame place bytes = argument.Frame (frame_at place bytes)
+
+-- .. and those of these kinds, one after the other
+abbrev pub made_from : ℕ → List Kind → List ℕ → List Argument
+made_from place [] bytes = []
+made_from place (which ∷ kinds) bytes = made_at (shape_of which) place bytes ∷ made_from (place + width_of which) kinds bytes
+
 -- the callback with this number whose arguments these bytes are
-abbrev pub call_in : ℕ → List ℕ → Call
-call_in number args =
-    if number == THREAD_BEGIN then ThreadBegin (short_at 0 args) (word_at 4 args)
-    else if number == THREAD_END then ThreadEnd (word_at 0 args)
-    else if number == PARALLEL_BEGIN then ParallelBegin (word_at 0 args) (frame_at 12 args) (word_at 20 args) (short_at 32 args) (short_at 36 args) (long_at 40 args)
-    else if number == PARALLEL_END then ParallelEnd (word_at 0 args) (word_at 12 args) (short_at 24 args) (long_at 28 args)
-    else if number == TASK_CREATE then TaskCreate (word_at 0 args) (frame_at 12 args) (word_at 20 args) (short_at 32 args) (short_at 36 args) (long_at 40 args)
-    else if number == TASK_SCHEDULE then TaskSchedule (word_at 0 args) (short_at 12 args) (word_at 16 args)
-    else if number == IMPLICIT_TASK then ImplicitTask (short_at 0 args) (word_at 4 args) (word_at 16 args) (short_at 28 args) (short_at 32 args) (short_at 36 args)
-    else if number == SYNC_REGION_WAIT then SyncRegionWait (short_at 0 args) (short_at 4 args) (word_at 8 args) (word_at 20 args) (long_at 32 args)
-    else if number == MUTEX_RELEASED then MutexReleased (short_at 0 args) (short_at 4 args) (long_at 8 args)
-    else if number == WORK then Work (short_at 0 args) (short_at 4 args) (word_at 8 args) (word_at 20 args) (long_at 32 args) (long_at 40 args)
-    else if number == MASKED then Masked (short_at 0 args) (word_at 4 args) (word_at 16 args) (long_at 28 args)
-    else if number == SYNC_REGION then SyncRegion (short_at 0 args) (short_at 4 args) (word_at 8 args) (word_at 20 args) (long_at 32 args)
-    else if number == LOCK_INIT then LockInit (short_at 0 args) (short_at 4 args) (short_at 8 args) (short_at 12 args) (long_at 16 args)
-    else if number == LOCK_DESTROY then LockDestroy (short_at 0 args) (short_at 4 args) (long_at 8 args)
-    else if number == MUTEX_ACQUIRE then MutexAcquire (short_at 0 args) (short_at 4 args) (short_at 8 args) (short_at 12 args) (long_at 16 args)
-    else if number == MUTEX_ACQUIRED then MutexAcquired (short_at 0 args) (short_at 4 args) (long_at 8 args)
-    else Dispatch (word_at 0 args) (word_at 12 args) (short_at 24 args) (long_at 28 args) (long_at 36 args)
+pub record IsCallIn (code : ℕ) (args : List ℕ) (call : Call) : Type 0 where
+  pub number : number_of call ≡ code
+  pub arguments : arguments_of call ≡ made_from 0 (kinds_of code) args
 
 abbrev pub header_in : List ℕ → Header
 header_in bytes =
@@ -55,20 +71,19 @@ header_in bytes =
       mask = long_at 8 bytes;
     }
 
-abbrev pub event_in : List ℕ → EventRecord
-event_in bytes =
-    record {
-      seq = short_at 1 bytes;
-      thread = big_number 1 (drop 5 bytes);
-      state = big_number 2 (drop 6 bytes);
-      wait_id = short_at 8 bytes;
-      call = call_in (big_number 1 bytes) (drop 12 bytes);
-    }
+pub record IsEventIn (bytes : List ℕ) (event : EventRecord) : Type 0 where
+  pub seq : event.seq ≡ short_at 1 bytes
+  pub thread : event.thread ≡ big_number 1 (drop 5 bytes)
+  pub state : event.state ≡ big_number 2 (drop 6 bytes)
+  pub wait_id : event.wait_id ≡ short_at 8 bytes
+  pub call : IsCallIn (big_number 1 bytes) (drop 12 bytes) event.call
 
 abbrev pub end_in : List ℕ → EndMark
 end_in bytes = record { status = big_number 1 (drop 1 bytes); detail = short_at 2 bytes; count = short_at 6 bytes }
 
 -- the item whose bytes these are, where the header has come or not
-abbrev pub item_in : Option Header → List ℕ → Item
-item_in None bytes = item.Header (header_in bytes)
-item_in (Some header) bytes = if big_number 1 bytes == 0 then item.End (end_in bytes) else item.Event (event_in bytes)
+abbrev pub IsItemIn : Option Header → List ℕ → Item → Type 0
+IsItemIn None bytes (item.Header header) = header ≡ header_in bytes
+IsItemIn (Some header) bytes (item.Event event) = (big_number 1 bytes ≢ 0) × IsEventIn bytes event
+IsItemIn (Some header) bytes (item.End end) = (big_number 1 bytes ≡ 0) × (end ≡ end_in bytes)
+IsItemIn header bytes other = ⊥

@@ -3,7 +3,6 @@ use Rattle.std.specs.Prelude.{ℕ, ◌≡◌, ◌≤◌, ◌+◌, ◌-◌, ◌++
 use Rattle.byteorder.specs.Endian.{big_number}
 use Rattle.omp_codes.specs.Answers.{in_profile}
 use Rattle.omp_codes.specs.States.{states}
-use Rattle.omp_codes.specs.declared.callbacks.TheConstants.{THREAD_BEGIN, THREAD_END, PARALLEL_BEGIN, PARALLEL_END, TASK_CREATE, TASK_SCHEDULE, IMPLICIT_TASK, SYNC_REGION_WAIT, MUTEX_RELEASED, WORK, MASKED, SYNC_REGION, LOCK_INIT, LOCK_DESTROY, MUTEX_ACQUIRE, MUTEX_ACQUIRED}
 use Rattle.omp_codes.specs.declared.dispatch_kinds.TheConstants.{SECTION}
 use Rattle.ompt_calls.specs.Number.{is_registered}
 use Rattle.trace_format.specs.declared.field.Field.{Field}
@@ -133,30 +132,20 @@ pub record HasNumber (place : ℕ) (bytes : List ℕ) : Type 0 where
   pub end : (place ≡ 0 → ⊥) → big_number 1 bytes ≡ 0 → place ≡ 2 → 2 ≤ length bytes
   pub event : (place ≡ 0 → ⊥) → slice_get (kinds_of (big_number 1 bytes)) (place - 5) ≡ Some Iterations → 5 ≤ place → 40 ≤ length bytes
 
--- the bytes of a callback's arguments
+-- how many bytes arguments of these kinds have
+abbrev pub total : List Kind → ℕ
+total [] = 0
+total (kind ∷ kinds) = width_of kind + total kinds
+
+-- .. and those of a callback
 abbrev pub arguments_width : ℕ → ℕ
-arguments_width number =
-    if number == THREAD_BEGIN then 16
-    else if number == THREAD_END then 12
-    else if number == PARALLEL_BEGIN then 48
-    else if number == PARALLEL_END then 36
-    else if number == TASK_CREATE then 48
-    else if number == TASK_SCHEDULE then 28
-    else if number == IMPLICIT_TASK then 40
-    else if number == SYNC_REGION_WAIT || number == SYNC_REGION then 40
-    else if number == MUTEX_RELEASED then 16
-    else if number == WORK then 48
-    else if number == MASKED then 36
-    else if number == LOCK_INIT then 24
-    else if number == LOCK_DESTROY then 16
-    else if number == MUTEX_ACQUIRE then 24
-    else if number == MUTEX_ACQUIRED then 16
-    else 44
+arguments_width number = total (kinds_of number)
 
 -- the bytes are enough for an item, where the header has come or not
 pub record SpellsRecord (bytes : List ℕ) : Type 0 where
   pub number : 1 ≤ length bytes
   pub end : big_number 1 bytes ≡ 0 → 10 ≤ length bytes
+  pub profile : (big_number 1 bytes ≡ 0 → ⊥) → in_profile (big_number 1 bytes) ≡ true
   pub event : (big_number 1 bytes ≡ 0 → ⊥) → 12 + arguments_width (big_number 1 bytes) ≤ length bytes
 
 abbrev pub SpellsItem : Option Header → List ℕ → Type 0

@@ -1,8 +1,8 @@
 -- Which traces there are, and what each of them is written as.
-use Rattle.std.specs.Prelude.{ℕ, ◌≡◌, ◌<◌, ◌≤◌, ◌+◌, ◌^◌, ◌==◌, ◌||◌, Bool, true, false, List, [], ◌∷◌, length}
+use Rattle.std.specs.Prelude.{ℕ, ◌≡◌, if◌then◌else◌, ◌<◌, ◌≤◌, ◌+◌, ◌^◌, ◌==◌, ◌||◌, Bool, true, false, List, [], ◌∷◌, length}
 use Rattle.omp_codes.specs.Answers.{in_profile}
 use Rattle.omp_codes.specs.States.{states}
-use Rattle.omp_codes.specs.declared.callbacks.TheConstants.{DISPATCH}
+use Rattle.omp_codes.specs.declared.callbacks.TheConstants.{THREAD_BEGIN, THREAD_END, PARALLEL_BEGIN, PARALLEL_END, TASK_CREATE, TASK_SCHEDULE, IMPLICIT_TASK, SYNC_REGION_WAIT, MUTEX_RELEASED, WORK, MASKED, SYNC_REGION, LOCK_INIT, LOCK_DESTROY, MUTEX_ACQUIRE, MUTEX_ACQUIRED, DISPATCH}
 use Rattle.omp_codes.specs.declared.dispatch_kinds.TheConstants as dispatch_kind
 use Rattle.omp_codes.specs.declared.endpoints.TheConstants as scope
 use Rattle.omp_codes.specs.declared.mutex_kinds.TheConstants as mutex_kind
@@ -18,6 +18,8 @@ use Rattle.ompt_calls.specs.declared.call.Call.{Call}
 use Rattle.ompt_calls.specs.declared.call.Call.TheVariants.{ThreadBegin, ThreadEnd, ParallelBegin, ParallelEnd, TaskCreate, TaskSchedule, ImplicitTask, SyncRegionWait, MutexReleased, Work, Masked, SyncRegion, LockInit, LockDestroy, MutexAcquire, MutexAcquired, Dispatch}
 use Rattle.ompt_calls.specs.declared.event.EventRecord.{EventRecord}
 use Rattle.ompt_calls.specs.Number.{is_registered, number_of}
+use Rattle.trace_format.specs.declared.kind.Kind.{Kind}
+use Rattle.trace_format.specs.declared.kind.Kind.TheVariants as arg
 use Rattle.trace_format.specs.declared.trace.Header.{Header}
 use Rattle.trace_format.specs.declared.trace.Trace.{Trace}
 use Rattle.trace_format.specs.declared.trace.TheConstants.{SEQ_LIMIT, FIRST_VERSION, VERSION, RECORDED, MIGRATED}
@@ -107,12 +109,34 @@ IsCall (Work kind endpoint region task count codeptr) =
 IsCall (Masked endpoint region task codeptr) = IsAmong endpoints endpoint × IsWord region × IsWord task × IsLong codeptr
 IsCall (SyncRegion kind endpoint region task codeptr) =
     IsAmong sync_kinds kind × IsAmong endpoints endpoint × IsWord region × IsWord task × IsLong codeptr
-IsCall (LockInit kind hint variant wait_id codeptr) = (kind ≡ mutex_kind.LOCK) × (hint ≡ 0) × (variant ≡ 0) × IsShort wait_id × IsLong codeptr
+IsCall (LockInit kind hint variant wait_id codeptr) =
+    (kind ≡ mutex_kind.LOCK) × (hint ≡ 0) × (variant ≡ 0) × IsShort wait_id × IsLong codeptr
 IsCall (LockDestroy kind wait_id codeptr) = (kind ≡ mutex_kind.LOCK) × IsShort wait_id × IsLong codeptr
 IsCall (MutexAcquire kind hint variant wait_id codeptr) =
     IsAmong mutex_kinds kind × (hint ≡ 0) × (variant ≡ 0) × IsShort wait_id × IsLong codeptr
 IsCall (MutexAcquired kind wait_id codeptr) = IsAmong mutex_kinds kind × IsShort wait_id × IsLong codeptr
 IsCall (Dispatch region task kind start iterations) = IsWord region × IsWord task × IsLong start × IsDispatched kind iterations
+
+-- The same by kinds, as the reader goes by them: those of a callback's arguments, by its number. That both say the same is proved.
+abbrev pub kinds_of : ℕ → List Kind
+kinds_of number =
+    if number == THREAD_BEGIN then arg.OfThread ∷ arg.Word ∷ []
+    else if number == THREAD_END then arg.Word ∷ []
+    else if number == PARALLEL_BEGIN then arg.Word ∷ arg.Frame ∷ arg.Word ∷ arg.Short ∷ arg.ParallelFlags ∷ arg.Place ∷ []
+    else if number == PARALLEL_END then arg.Word ∷ arg.Word ∷ arg.ParallelFlags ∷ arg.Place ∷ []
+    else if number == TASK_CREATE then arg.Word ∷ arg.Frame ∷ arg.Word ∷ arg.TaskFlags ∷ arg.Zero ∷ arg.Place ∷ []
+    else if number == TASK_SCHEDULE then arg.Word ∷ arg.Status ∷ arg.Word ∷ []
+    else if number == IMPLICIT_TASK then arg.Endpoint ∷ arg.Word ∷ arg.Word ∷ arg.Short ∷ arg.Short ∷ arg.ImplicitFlags ∷ []
+    else if number == SYNC_REGION_WAIT || number == SYNC_REGION then arg.OfSync ∷ arg.Endpoint ∷ arg.Word ∷ arg.Word ∷ arg.Place ∷ []
+    else if number == MUTEX_RELEASED then arg.OfRelease ∷ arg.Short ∷ arg.Place ∷ []
+    else if number == WORK then arg.OfWork ∷ arg.Endpoint ∷ arg.Word ∷ arg.Word ∷ arg.Long ∷ arg.Place ∷ []
+    else if number == MASKED then arg.Endpoint ∷ arg.Word ∷ arg.Word ∷ arg.Place ∷ []
+    else if number == LOCK_INIT then arg.OfLock ∷ arg.Zero ∷ arg.Zero ∷ arg.Short ∷ arg.Place ∷ []
+    else if number == LOCK_DESTROY then arg.OfLock ∷ arg.Short ∷ arg.Place ∷ []
+    else if number == MUTEX_ACQUIRE then arg.OfMutex ∷ arg.Zero ∷ arg.Zero ∷ arg.Short ∷ arg.Place ∷ []
+    else if number == MUTEX_ACQUIRED then arg.OfMutex ∷ arg.Short ∷ arg.Place ∷ []
+    else if number == DISPATCH then arg.Word ∷ arg.Word ∷ arg.OfDispatch ∷ arg.Long ∷ arg.Iterations ∷ []
+    else []
 
 -- the first version has no origin but its own
 abbrev pub IsOrigin : ℕ → ℕ → Type 0

@@ -3,14 +3,14 @@
 ghost use Rattle.std.specs.Prelude.{◌≡◌, ◌≤◌, ◌+◌, ◌<◌, drop, length, true};
 ghost use Rattle.byteorder.specs.Endian.{big_number};
 ghost use Rattle.omp_codes.specs.Answers.{in_profile};
-ghost use Rattle.trace_format.specs.Decoding.{call_in, end_in, event_in, frame_at, header_in, item_in, long_at, short_at, word_at};
+ghost use Rattle.trace_format.specs.Decoding.{IsCallIn, IsEventIn, IsItemIn, end_in, frame_at, header_in, long_at, short_at, word_at};
 ghost use Rattle.trace_format.specs.Flat.{SpellsItem, arguments_width};
 
 use crate::item::Item;
 use crate::trace::{EndMark, Header};
 use byteorder::{BigEndian, ByteOrder};
 use omp_codes::callbacks;
-use ompt_calls::{Call, EventRecord, Frame, Word};
+use ompt_calls::{Call, EventRecord, Frame, Word, by_callback};
 
 /// The byte at this place.
 pub fn byte_at(bytes: &[u8], place: usize) -> u8
@@ -66,119 +66,98 @@ fn frame_at(bytes: &[u8], place: usize) -> Frame
     }
 }
 
-/// The callback with this number whose arguments these bytes are.
-fn call_in(number: u32, args: &[u8]) -> Call
-    requires { arguments_width number ≤ length args.now }
-    ensures { result ≡ call_in number args.now }
-{
-    match number {
-        callbacks::THREAD_BEGIN => Call::ThreadBegin {
-            kind: short_at(args, 0),
-            thread: word_at(args, 4),
-        },
-        callbacks::THREAD_END => Call::ThreadEnd {
-            thread: word_at(args, 0),
-        },
-        callbacks::PARALLEL_BEGIN => Call::ParallelBegin {
-            task: word_at(args, 0),
-            frame: frame_at(args, 12),
-            region: word_at(args, 20),
-            requested: short_at(args, 32),
-            flags: short_at(args, 36),
-            codeptr: long_at(args, 40),
-        },
-        callbacks::PARALLEL_END => Call::ParallelEnd {
-            region: word_at(args, 0),
-            task: word_at(args, 12),
-            flags: short_at(args, 24),
-            codeptr: long_at(args, 28),
-        },
-        callbacks::TASK_CREATE => Call::TaskCreate {
-            task: word_at(args, 0),
-            frame: frame_at(args, 12),
-            fresh: word_at(args, 20),
-            flags: short_at(args, 32),
-            has_dependences: short_at(args, 36),
-            codeptr: long_at(args, 40),
-        },
-        callbacks::TASK_SCHEDULE => Call::TaskSchedule {
-            prior: word_at(args, 0),
-            status: short_at(args, 12),
-            next: word_at(args, 16),
-        },
-        callbacks::IMPLICIT_TASK => Call::ImplicitTask {
-            endpoint: short_at(args, 0),
-            region: word_at(args, 4),
-            task: word_at(args, 16),
-            actual: short_at(args, 28),
-            index: short_at(args, 32),
-            flags: short_at(args, 36),
-        },
-        callbacks::SYNC_REGION_WAIT => Call::SyncRegionWait {
-            kind: short_at(args, 0),
-            endpoint: short_at(args, 4),
-            region: word_at(args, 8),
-            task: word_at(args, 20),
-            codeptr: long_at(args, 32),
-        },
-        callbacks::MUTEX_RELEASED => Call::MutexReleased {
-            kind: short_at(args, 0),
-            wait_id: short_at(args, 4),
-            codeptr: long_at(args, 8),
-        },
-        callbacks::WORK => Call::Work {
-            kind: short_at(args, 0),
-            endpoint: short_at(args, 4),
-            region: word_at(args, 8),
-            task: word_at(args, 20),
-            count: long_at(args, 32),
-            codeptr: long_at(args, 40),
-        },
-        callbacks::MASKED => Call::Masked {
-            endpoint: short_at(args, 0),
-            region: word_at(args, 4),
-            task: word_at(args, 16),
-            codeptr: long_at(args, 28),
-        },
-        callbacks::SYNC_REGION => Call::SyncRegion {
-            kind: short_at(args, 0),
-            endpoint: short_at(args, 4),
-            region: word_at(args, 8),
-            task: word_at(args, 20),
-            codeptr: long_at(args, 32),
-        },
-        callbacks::LOCK_INIT => Call::LockInit {
-            kind: short_at(args, 0),
-            hint: short_at(args, 4),
-            variant: short_at(args, 8),
-            wait_id: short_at(args, 12),
-            codeptr: long_at(args, 16),
-        },
-        callbacks::LOCK_DESTROY => Call::LockDestroy {
-            kind: short_at(args, 0),
-            wait_id: short_at(args, 4),
-            codeptr: long_at(args, 8),
-        },
-        callbacks::MUTEX_ACQUIRE => Call::MutexAcquire {
-            kind: short_at(args, 0),
-            hint: short_at(args, 4),
-            variant: short_at(args, 8),
-            wait_id: short_at(args, 12),
-            codeptr: long_at(args, 16),
-        },
-        callbacks::MUTEX_ACQUIRED => Call::MutexAcquired {
-            kind: short_at(args, 0),
-            wait_id: short_at(args, 4),
-            codeptr: long_at(args, 8),
-        },
-        _ => Call::Dispatch {
-            region: word_at(args, 0),
-            task: word_at(args, 12),
-            kind: short_at(args, 24),
-            start: long_at(args, 28),
-            iterations: long_at(args, 36),
-        },
+/// The bytes of a callback's arguments, and how many of them were read.
+#[derive(Drop)]
+struct Fields<'a> {
+    bytes: &'a [u8],
+    place: usize,
+}
+
+impl Fields<'_> {
+    /// The number of 32 bits that comes next.
+    fn short(&mut self) -> u32
+        requires { self.old.place + 4 ≤ length self.old.bytes.now }
+        ensures value { result ≡ short_at self.old.place self.old.bytes.now }
+        ensures place { self.new ≡ record self.old { place = self.old.place + 4 } }
+    {
+        let place = self.place;
+        self.place += 4;
+        short_at(self.bytes, place)
     }
+
+    /// The number of 64 bits that comes next.
+    fn long(&mut self) -> u64
+        requires { self.old.place + 8 ≤ length self.old.bytes.now }
+        ensures value { result ≡ long_at self.old.place self.old.bytes.now }
+        ensures place { self.new ≡ record self.old { place = self.old.place + 8 } }
+    {
+        let place = self.place;
+        self.place += 8;
+        long_at(self.bytes, place)
+    }
+
+    /// The data word that comes next.
+    fn word(&mut self) -> Word
+        requires { self.old.place + 12 ≤ length self.old.bytes.now }
+        ensures value { result ≡ word_at self.old.place self.old.bytes.now }
+        ensures place { self.new ≡ record self.old { place = self.old.place + 12 } }
+    {
+        let place = self.place;
+        self.place += 12;
+        word_at(self.bytes, place)
+    }
+
+    /// The frame that comes next.
+    fn frame(&mut self) -> Frame
+        requires { self.old.place + 8 ≤ length self.old.bytes.now }
+        ensures value { result ≡ frame_at self.old.place self.old.bytes.now }
+        ensures place { self.new ≡ record self.old { place = self.old.place + 8 } }
+    {
+        let place = self.place;
+        self.place += 8;
+        frame_at(self.bytes, place)
+    }
+}
+
+/// The argument that comes next.
+macro_rules! next_of {
+    ($fields:expr, Short) => {
+        $fields.short()
+    };
+    ($fields:expr, Long) => {
+        $fields.long()
+    };
+    ($fields:expr, Word) => {
+        $fields.word()
+    };
+    ($fields:expr, Frame) => {
+        $fields.frame()
+    };
+}
+
+/// The callback of each row, of the arguments that come next.
+macro_rules! call_by_row {
+    ($of:expr, $fields:expr; $($number:ident $variant:ident { $($field:ident: $form:ident),+ })+) => {
+        match $of {
+            $(callbacks::$number => Call::$variant {
+                $($field: next_of!($fields, $form)),+
+            },)+
+            _ => unreachable!(),
+        }
+    };
+}
+
+/// The callback of the profile with this number whose arguments these bytes are.
+fn call_in(number: u32, args: &[u8]) -> Call
+    requires profile { in_profile number ≡ true }
+    requires whole { arguments_width number ≤ length args.now }
+    ensures { IsCallIn number args.now result }
+{
+    let mut fields = Fields {
+        bytes: args,
+        place: 0,
+    };
+    by_callback!(call_by_row, number, fields)
 }
 
 /// The header that these bytes are.
@@ -196,8 +175,9 @@ fn header_in(bytes: &[u8]) -> Header
 
 /// The event that these bytes are.
 fn event_in(bytes: &[u8]) -> EventRecord
-    requires { 12 + arguments_width (big_number 1 bytes.now) ≤ length bytes.now }
-    ensures { result ≡ event_in bytes.now }
+    requires profile { in_profile (big_number 1 bytes.now) ≡ true }
+    requires whole { 12 + arguments_width (big_number 1 bytes.now) ≤ length bytes.now }
+    ensures { IsEventIn bytes.now result }
 {
     EventRecord {
         seq: short_at(bytes, 1),
@@ -223,7 +203,7 @@ fn end_in(bytes: &[u8]) -> EndMark
 /// The item that these bytes are, where the header has come or not.
 pub fn item_in(header: &Option<Header>, bytes: &[u8]) -> Item
     requires { SpellsItem header.now bytes.now }
-    ensures { result ≡ item_in header.now bytes.now }
+    ensures { IsItemIn header.now bytes.now result }
 {
     match header {
         None => Item::Header(header_in(bytes)),

@@ -1,7 +1,7 @@
 //! The kinds of an event's arguments.
 
 ghost use Rattle.std.specs.Prelude.{◌≡◌, ◌≤◌, [], length};
-ghost use Rattle.trace_format.specs.Accepting.{accepts_kind, kinds_of, width_of};
+ghost use Rattle.trace_format.specs.Accepting.{accepts_kind, accepts_number, kinds_of, width_of};
 
 use crate::decode::{long_at, short_at};
 use omp_codes::{
@@ -16,6 +16,8 @@ pub enum Kind {
     Short,
     /// Any number of 64 bits.
     Long,
+    /// A place in the program.
+    Place,
     /// A data word.
     Word,
     /// A frame.
@@ -54,75 +56,29 @@ pub enum Kind {
 pub fn kinds_of(number: u32) -> &'static [Kind]
     ensures { result.now ≡ kinds_of number }
 {
+    use Kind::{
+        Endpoint, Frame, ImplicitFlags, Iterations, Long, OfDispatch, OfLock, OfMutex, OfRelease,
+        OfSync, OfThread, OfWork, ParallelFlags, Place, Short, Status, TaskFlags, Word, Zero,
+    };
     match number {
-        callbacks::THREAD_BEGIN => &[Kind::OfThread, Kind::Word],
-        callbacks::THREAD_END => &[Kind::Word],
-        callbacks::PARALLEL_BEGIN => &[
-            Kind::Word,
-            Kind::Frame,
-            Kind::Word,
-            Kind::Short,
-            Kind::ParallelFlags,
-            Kind::Long,
-        ],
-        callbacks::PARALLEL_END => &[Kind::Word, Kind::Word, Kind::ParallelFlags, Kind::Long],
-        callbacks::TASK_CREATE => &[
-            Kind::Word,
-            Kind::Frame,
-            Kind::Word,
-            Kind::TaskFlags,
-            Kind::Zero,
-            Kind::Long,
-        ],
-        callbacks::TASK_SCHEDULE => &[Kind::Word, Kind::Status, Kind::Word],
-        callbacks::IMPLICIT_TASK => &[
-            Kind::Endpoint,
-            Kind::Word,
-            Kind::Word,
-            Kind::Short,
-            Kind::Short,
-            Kind::ImplicitFlags,
-        ],
-        callbacks::SYNC_REGION_WAIT | callbacks::SYNC_REGION => &[
-            Kind::OfSync,
-            Kind::Endpoint,
-            Kind::Word,
-            Kind::Word,
-            Kind::Long,
-        ],
-        callbacks::MUTEX_RELEASED => &[Kind::OfRelease, Kind::Short, Kind::Long],
-        callbacks::WORK => &[
-            Kind::OfWork,
-            Kind::Endpoint,
-            Kind::Word,
-            Kind::Word,
-            Kind::Long,
-            Kind::Long,
-        ],
-        callbacks::MASKED => &[Kind::Endpoint, Kind::Word, Kind::Word, Kind::Long],
-        callbacks::LOCK_INIT => &[
-            Kind::OfLock,
-            Kind::Zero,
-            Kind::Zero,
-            Kind::Short,
-            Kind::Long,
-        ],
-        callbacks::LOCK_DESTROY => &[Kind::OfLock, Kind::Short, Kind::Long],
-        callbacks::MUTEX_ACQUIRE => &[
-            Kind::OfMutex,
-            Kind::Zero,
-            Kind::Zero,
-            Kind::Short,
-            Kind::Long,
-        ],
-        callbacks::MUTEX_ACQUIRED => &[Kind::OfMutex, Kind::Short, Kind::Long],
-        callbacks::DISPATCH => &[
-            Kind::Word,
-            Kind::Word,
-            Kind::OfDispatch,
-            Kind::Long,
-            Kind::Iterations,
-        ],
+        callbacks::THREAD_BEGIN => &[OfThread, Word],
+        callbacks::THREAD_END => &[Word],
+        callbacks::PARALLEL_BEGIN => &[Word, Frame, Word, Short, ParallelFlags, Place],
+        callbacks::PARALLEL_END => &[Word, Word, ParallelFlags, Place],
+        callbacks::TASK_CREATE => &[Word, Frame, Word, TaskFlags, Zero, Place],
+        callbacks::TASK_SCHEDULE => &[Word, Status, Word],
+        callbacks::IMPLICIT_TASK => &[Endpoint, Word, Word, Short, Short, ImplicitFlags],
+        callbacks::SYNC_REGION_WAIT | callbacks::SYNC_REGION => {
+            &[OfSync, Endpoint, Word, Word, Place]
+        }
+        callbacks::MUTEX_RELEASED => &[OfRelease, Short, Place],
+        callbacks::WORK => &[OfWork, Endpoint, Word, Word, Long, Place],
+        callbacks::MASKED => &[Endpoint, Word, Word, Place],
+        callbacks::LOCK_INIT => &[OfLock, Zero, Zero, Short, Place],
+        callbacks::LOCK_DESTROY => &[OfLock, Short, Place],
+        callbacks::MUTEX_ACQUIRE => &[OfMutex, Zero, Zero, Short, Place],
+        callbacks::MUTEX_ACQUIRED => &[OfMutex, Short, Place],
+        callbacks::DISPATCH => &[Word, Word, OfDispatch, Long, Iterations],
         _ => &[],
     }
 }
@@ -133,7 +89,7 @@ pub fn width_of(kind: Kind) -> usize
 {
     match kind {
         Kind::Word => 12,
-        Kind::Long | Kind::Frame | Kind::Iterations => 8,
+        Kind::Long | Kind::Place | Kind::Frame | Kind::Iterations => 8,
         _ => 4,
     }
 }
@@ -145,49 +101,45 @@ pub fn accepts_kind(kind: Kind, bytes: &[u8]) -> bool
 {
     match kind {
         Kind::Word => short_at(bytes, 0) != 0 || long_at(bytes, 4) == 0,
-        Kind::OfThread => matches!(
-            short_at(bytes, 0),
-            thread_kinds::INITIAL | thread_kinds::WORKER
-        ),
-        Kind::Endpoint => matches!(short_at(bytes, 0), endpoints::BEGIN | endpoints::END),
+        Kind::Long | Kind::Place | Kind::Frame | Kind::Iterations => true,
+        other => accepts_number(other, short_at(bytes, 0)),
+    }
+}
+
+/// Whether an argument of the kind may be this number of 32 bits.
+pub fn accepts_number(kind: Kind, number: u32) -> bool
+    ensures { result ≡ accepts_number kind number }
+{
+    match kind {
+        Kind::Short => true,
+        Kind::OfThread => matches!(number, thread_kinds::INITIAL | thread_kinds::WORKER),
+        Kind::Endpoint => matches!(number, endpoints::BEGIN | endpoints::END),
         Kind::OfSync => matches!(
-            short_at(bytes, 0),
+            number,
             sync_kinds::BARRIER_EXPLICIT
                 | sync_kinds::TASKWAIT
                 | sync_kinds::BARRIER_IMPLICIT_WORKSHARE
                 | sync_kinds::BARRIER_IMPLICIT_PARALLEL
         ),
         Kind::OfMutex => matches!(
-            short_at(bytes, 0),
+            number,
             mutex_kinds::LOCK | mutex_kinds::TEST_LOCK | mutex_kinds::CRITICAL
         ),
-        Kind::OfRelease => matches!(
-            short_at(bytes, 0),
-            mutex_kinds::LOCK | mutex_kinds::CRITICAL
-        ),
-        Kind::OfWork => matches!(
-            short_at(bytes, 0),
-            work_kinds::LOOP..=work_kinds::SINGLE_OTHER
-        ),
+        Kind::OfRelease => matches!(number, mutex_kinds::LOCK | mutex_kinds::CRITICAL),
+        Kind::OfWork => matches!(number, work_kinds::LOOP..=work_kinds::SINGLE_OTHER),
         Kind::OfDispatch => matches!(
-            short_at(bytes, 0),
+            number,
             dispatch_kinds::SECTION | dispatch_kinds::WS_LOOP_CHUNK
         ),
-        Kind::Status => matches!(
-            short_at(bytes, 0),
-            task_statuses::COMPLETE | task_statuses::SWITCH
-        ),
-        Kind::OfLock => short_at(bytes, 0) == mutex_kinds::LOCK,
-        Kind::Zero => short_at(bytes, 0) == 0,
-        Kind::ParallelFlags => short_at(bytes, 0) == parallel_flags::TEAM_OF_PROGRAM,
+        Kind::Status => matches!(number, task_statuses::COMPLETE | task_statuses::SWITCH),
+        Kind::OfLock => number == mutex_kinds::LOCK,
+        Kind::Zero => number == 0,
+        Kind::ParallelFlags => number == parallel_flags::TEAM_OF_PROGRAM,
         Kind::TaskFlags => matches!(
-            short_at(bytes, 0),
+            number,
             task_flags::EXPLICIT | task_flags::EXPLICIT_UNDEFERRED
         ),
-        Kind::ImplicitFlags => matches!(
-            short_at(bytes, 0),
-            task_flags::INITIAL | task_flags::IMPLICIT
-        ),
-        Kind::Short | Kind::Long | Kind::Frame | Kind::Iterations => true,
+        Kind::ImplicitFlags => matches!(number, task_flags::INITIAL | task_flags::IMPLICIT),
+        Kind::Long | Kind::Place | Kind::Word | Kind::Frame | Kind::Iterations => false,
     }
 }

@@ -15,6 +15,7 @@
 //! Proved by the contracts of the functions that are named:
 //!
 //! - [`valid`]: true exactly of the traces;
+//! - [`kinds_of`]: what each argument of a callback has, by the callback's number;
 //! - [`write_item`] and [`write_trace`] append what the item or the trace is written as, of every item and every trace, or at a
 //!   write fault a front of it;
 //! - [`Reader::feed`] and [`Reader::end`], for all that was taken before: the items given are those whose last byte was taken,
@@ -53,7 +54,7 @@ mod writing;
 pub use checking::valid;
 pub use field::Field;
 pub use item::Item;
-pub use kind::Kind;
+pub use kind::{Kind, kinds_of};
 pub use laws::{longest, migrated_once, never_refused, one_refusal, one_spelling};
 pub use read_end::ReadEnd;
 pub use reader::{Reader, Taken};

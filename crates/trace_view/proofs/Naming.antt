@@ -12,19 +12,25 @@ use Rattle.std.proofs.lemmas.Iterator.{zips}
 use Rattle.std.proofs.lemmas.Slice.Zip.{either_empty_from_Zip}
 use denote.Ref.{Bor}
 use Rattle.ompt_calls.specs.declared.argument.Argument.{Argument}
+use Rattle.ompt_calls.specs.declared.call.Call.{Call}
+use Rattle.ompt_calls.specs.declared.call.Call.TheVariants.{ThreadBegin, ThreadEnd, ParallelBegin, ParallelEnd, TaskCreate, TaskSchedule, ImplicitTask, SyncRegionWait, MutexReleased, Work, Masked, SyncRegion, LockInit, LockDestroy, MutexAcquire, MutexAcquired, Dispatch}
+use Rattle.ompt_calls.specs.Arguments.{arguments_of}
 use Rattle.ompt_calls.specs.Line.{spaced}
-use Rattle.trace_view.specs.declared.named_call.Naming.{Naming}
+use Rattle.ompt_calls.specs.Number.{number_of}
+use Rattle.trace_format.specs.declared.kind.Kind.{Kind}
+use Rattle.trace_format.specs.Validity.{kinds_of}
+use Rattle.trace_view.specs.NamedLines.{named_arguments}
 use Rattle.trace_view.specs.Names.{state_text}
-use Rattle.trace_view.specs.Naming.{each_named, named_argument}
+use Rattle.trace_view.specs.Naming.{each_named, named_argument, naming_of}
 
-abbrev pub pair_text : Bor Naming × Bor Argument → List ℕ
-pair_text pair = named_argument pair.0.now pair.1.now
+abbrev pub pair_text : Bor Kind × Bor Argument → List ℕ
+pair_text pair = named_argument (naming_of pair.0.now) pair.1.now
 
-abbrev pub spaced_pair : Bor Naming × Bor Argument → List ℕ
+abbrev pub spaced_pair : Bor Kind × Bor Argument → List ℕ
 spaced_pair pair = codes " " ++ pair_text pair
 
 -- parts with a space before each are spaced behind what stands in front
-pub spaced_is : (name : List ℕ) (pairs : List (Bor Naming × Bor Argument))
+pub spaced_is : (name : List ℕ) (pairs : List (Bor Kind × Bor Argument))
     → name ++ flat_map spaced_pair pairs ≡ spaced (name ∷ map pair_text pairs)
 spaced_is name [] = append-nil name
 spaced_is name (pair ∷ rest) =
@@ -33,24 +39,24 @@ spaced_is name (pair ∷ rest) =
     ∙ ap (λ (text : List ℕ). (name ++ codes " ") ++ text) (spaced_is (pair_text pair) rest)
 
 -- what the loop has gone over, and what it hasn't
-gone : (pairs : List (Bor Naming × Bor Argument)) (from to : Zip (Iter Naming) (Iter Argument)) → Yields (zips fronts fronts) from pairs to
+gone : (pairs : List (Bor Kind × Bor Argument)) (from to : Zip (Iter Kind) (Iter Argument)) → Yields (zips fronts fronts) from pairs to
     → each_named (iter_rest (zip_first from)) (iter_rest (zip_second from))
     ≡ map pair_text pairs ++ each_named (iter_rest (zip_first to)) (iter_rest (zip_second to))
-gone [] from to steps = ap (λ (at : Zip (Iter Naming) (Iter Argument)). each_named (iter_rest (zip_first at)) (iter_rest (zip_second at))) steps
+gone [] from to steps = ap (λ (at : Zip (Iter Kind) (Iter Argument)). each_named (iter_rest (zip_first at)) (iter_rest (zip_second at))) steps
 gone (pair ∷ rest) from to steps =
     ap₂ each_named steps.1.0 steps.1.1 ∙ ap (λ (texts : List (List ℕ)). pair_text pair ∷ texts) (gone rest steps.0 to steps.2)
 
-none_named : (namings : List Naming) → each_named namings [] ≡ []
+none_named : (namings : List Kind) → each_named namings [] ≡ []
 none_named [] = refl
 none_named (naming ∷ rest) = refl
 
-ended : (namings : List Naming) (arguments : List Argument) → (namings ≡ []) ⊎ (arguments ≡ []) → each_named namings arguments ≡ []
-ended namings arguments (inl is) = ap (λ (these : List Naming). each_named these arguments) is
+ended : (namings : List Kind) (arguments : List Argument) → (namings ≡ []) ⊎ (arguments ≡ []) → each_named namings arguments ≡ []
+ended namings arguments (inl is) = ap (λ (these : List Kind). each_named these arguments) is
 ended namings arguments (inr is) = ap (each_named namings) is ∙ none_named namings
 
 -- it goes over all that is named
-pub all_gone : (namings : List Naming) (arguments : List Argument) (pairs : List (Bor Naming × Bor Argument))
-    → (from to end : Zip (Iter Naming) (Iter Argument)) (next : Option (Bor Naming × Bor Argument))
+pub all_gone : (namings : List Kind) (arguments : List Argument) (pairs : List (Bor Kind × Bor Argument))
+    → (from to end : Zip (Iter Kind) (Iter Argument)) (next : Option (Bor Kind × Bor Argument))
     → iter_rest (zip_first from) ≡ namings → iter_rest (zip_second from) ≡ arguments
     → Yields (zips fronts fronts) from pairs to → next ≡ None → zips fronts fronts to next end
     → map pair_text pairs ≡ each_named namings arguments
@@ -58,6 +64,26 @@ all_gone namings arguments pairs from to end next first second steps is last =
     sym (append-nil (map pair_text pairs))
     ∙ (ap (λ (texts : List (List ℕ)). map pair_text pairs ++ texts) (sym (ended _ _ (either_empty_from_Zip to end next is last)))
     ∙ (sym (gone pairs from to steps) ∙ ap₂ each_named first second))
+
+-- the names of a call's arguments go by their kinds
+pub by_kinds : (call : Call) → each_named (kinds_of (number_of call)) (arguments_of call) ≡ named_arguments call
+by_kinds (ThreadBegin kind thread) = refl
+by_kinds (ThreadEnd thread) = refl
+by_kinds (ParallelBegin task frame region requested flags codeptr) = refl
+by_kinds (ParallelEnd region task flags codeptr) = refl
+by_kinds (TaskCreate task frame fresh flags has_dependences codeptr) = refl
+by_kinds (TaskSchedule prior status next) = refl
+by_kinds (ImplicitTask endpoint region task actual index flags) = refl
+by_kinds (SyncRegionWait kind endpoint region task codeptr) = refl
+by_kinds (MutexReleased kind wait_id codeptr) = refl
+by_kinds (Work kind endpoint region task count codeptr) = refl
+by_kinds (Masked endpoint region task codeptr) = refl
+by_kinds (SyncRegion kind endpoint region task codeptr) = refl
+by_kinds (LockInit kind hint variant wait_id codeptr) = refl
+by_kinds (LockDestroy kind wait_id codeptr) = refl
+by_kinds (MutexAcquire kind hint variant wait_id codeptr) = refl
+by_kinds (MutexAcquired kind wait_id codeptr) = refl
+by_kinds (Dispatch region task kind start iterations) = refl
 
 -- ---- the line of an event
 

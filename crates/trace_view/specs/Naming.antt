@@ -4,6 +4,8 @@ use Rattle.std.specs.Fmt.{decimal}
 use Rattle.ompt_calls.specs.declared.argument.Argument.{Argument}
 use Rattle.ompt_calls.specs.declared.argument.Argument.TheVariants.{Short, Long}
 use Rattle.ompt_calls.specs.Line.{argument_text, place_text}
+use Rattle.trace_format.specs.declared.kind.Kind.{Kind}
+use Rattle.trace_format.specs.declared.kind.Kind.TheVariants as kind
 use Rattle.trace_view.specs.declared.named_call.Naming.{Naming}
 use Rattle.trace_view.specs.declared.named_call.Naming.TheVariants.{Plain, Place, Named}
 use Rattle.trace_view.specs.declared.number_names.Enumeration.{Enumeration}
@@ -35,8 +37,25 @@ named_argument Place (Long place) = place_text place
 named_argument (Named enumeration) (Short number) = number_text enumeration number
 named_argument naming argument = argument_text argument
 
--- each of these arguments, as far as it is said how
-abbrev pub each_named : List Naming → List Argument → List (List ℕ)
+-- how an argument of the kind is written
+abbrev pub naming_of : Kind → Naming
+naming_of kind.Place = Place
+naming_of kind.OfThread = Named ThreadKind
+naming_of kind.Endpoint = Named Endpoint
+naming_of kind.OfSync = Named SyncKind
+naming_of kind.OfMutex = Named MutexKind
+naming_of kind.OfRelease = Named MutexKind
+naming_of kind.OfLock = Named MutexKind
+naming_of kind.OfWork = Named WorkKind
+naming_of kind.OfDispatch = Named DispatchKind
+naming_of kind.Status = Named TaskStatus
+naming_of kind.ParallelFlags = Named RegionFlags
+naming_of kind.TaskFlags = Named TaskFlags
+naming_of kind.ImplicitFlags = Named TaskFlags
+naming_of other = Plain
+
+-- each of these arguments, by its kind
+abbrev pub each_named : List Kind → List Argument → List (List ℕ)
 each_named [] arguments = []
-each_named (naming ∷ namings) [] = []
-each_named (naming ∷ namings) (argument ∷ arguments) = named_argument naming argument ∷ each_named namings arguments
+each_named (which ∷ kinds) [] = []
+each_named (which ∷ kinds) (argument ∷ arguments) = named_argument (naming_of which) argument ∷ each_named kinds arguments

@@ -1,14 +1,14 @@
 //! A call whose arguments are written by their names.
 
 ghost use Rattle.std.specs.Prelude.{◌≡◌, Some};
-ghost use Rattle.ompt_calls.specs.Arguments.{arguments_of};
-ghost use Rattle.trace_view.specs.NamedLines.{named_arguments, named_call};
-ghost use Rattle.trace_view.specs.Naming.{each_named, named_argument};
+ghost use Rattle.trace_view.specs.NamedLines.{named_call};
+ghost use Rattle.trace_view.specs.Naming.{named_argument, naming_of};
 
 use crate::number_names::{Enumeration, NumberName};
 use ompt_calls::{Argument, Call, CodePlace};
 use std::fmt;
 use std::fmt::{Display, Formatter};
+use trace_format::{Kind, kinds_of};
 
 /// A call whose arguments are written by their names.
 #[derive(Clone, Copy)]
@@ -21,9 +21,9 @@ impl Display for NamedCall {
 
     fn fmt<W: fmt::Write>(&self, f: &mut Formatter<W>) -> fmt::Result {
         write!(f, "{}", self.call.name())?;
-        let namings = namings_of(&self.call).iter();
-        for (naming, argument) in namings.zip(self.call.arguments().as_slice()) {
-            let (naming, argument) = (*naming, *argument);
+        let kinds = kinds_of(self.call.number()).iter();
+        for (kind, argument) in kinds.zip(self.call.arguments().as_slice()) {
+            let (naming, argument) = (naming_of(*kind), *argument);
             write!(f, " {}", NamedArgument { naming, argument })?;
         }
         Ok(())
@@ -41,42 +41,23 @@ enum Naming {
     Named(Enumeration),
 }
 
-/// How each argument of a call is written, in their order.
-fn namings_of(call: &Call) -> &'static [Naming]
-    ensures { each_named result.now (arguments_of call.now) ≡ named_arguments call.now }
+/// How an argument of the kind is written.
+fn naming_of(kind: Kind) -> Naming
+    ensures { result ≡ naming_of kind }
 {
-    use Enumeration::{
-        DispatchKind, Endpoint, MutexKind, RegionFlags, SyncKind, TaskFlags, TaskStatus,
-        ThreadKind, WorkKind,
-    };
-    use Naming::{Named, Place, Plain};
-    match call {
-        Call::ThreadBegin { .. } => &[Named(ThreadKind), Plain],
-        Call::ThreadEnd { .. } => &[Plain],
-        Call::ParallelBegin { .. } => &[Plain, Plain, Plain, Plain, Named(RegionFlags), Place],
-        Call::ParallelEnd { .. } => &[Plain, Plain, Named(RegionFlags), Place],
-        Call::TaskCreate { .. } => &[Plain, Plain, Plain, Named(TaskFlags), Plain, Place],
-        Call::TaskSchedule { .. } => &[Plain, Named(TaskStatus), Plain],
-        Call::ImplicitTask { .. } => &[
-            Named(Endpoint),
-            Plain,
-            Plain,
-            Plain,
-            Plain,
-            Named(TaskFlags),
-        ],
-        Call::SyncRegionWait { .. } | Call::SyncRegion { .. } => {
-            &[Named(SyncKind), Named(Endpoint), Plain, Plain, Place]
-        }
-        Call::MutexReleased { .. } | Call::LockDestroy { .. } | Call::MutexAcquired { .. } => {
-            &[Named(MutexKind), Plain, Place]
-        }
-        Call::Work { .. } => &[Named(WorkKind), Named(Endpoint), Plain, Plain, Plain, Place],
-        Call::Masked { .. } => &[Named(Endpoint), Plain, Plain, Place],
-        Call::LockInit { .. } | Call::MutexAcquire { .. } => {
-            &[Named(MutexKind), Plain, Plain, Plain, Place]
-        }
-        Call::Dispatch { .. } => &[Plain, Plain, Named(DispatchKind), Plain, Plain],
+    match kind {
+        Kind::Place => Naming::Place,
+        Kind::OfThread => Naming::Named(Enumeration::ThreadKind),
+        Kind::Endpoint => Naming::Named(Enumeration::Endpoint),
+        Kind::OfSync => Naming::Named(Enumeration::SyncKind),
+        Kind::OfMutex | Kind::OfRelease | Kind::OfLock => Naming::Named(Enumeration::MutexKind),
+        Kind::OfWork => Naming::Named(Enumeration::WorkKind),
+        Kind::OfDispatch => Naming::Named(Enumeration::DispatchKind),
+        Kind::Status => Naming::Named(Enumeration::TaskStatus),
+        Kind::ParallelFlags => Naming::Named(Enumeration::RegionFlags),
+        Kind::TaskFlags | Kind::ImplicitFlags => Naming::Named(Enumeration::TaskFlags),
+        Kind::Short | Kind::Long | Kind::Word | Kind::Frame | Kind::Iterations | Kind::Zero =>
+            Naming::Plain,
     }
 }
 

@@ -31,9 +31,9 @@ use Rattle.omp_model.specs.declared.event.Outcome.TheVariants as outcome
 use Rattle.omp_model.specs.declared.history.Entry.{Entry}
 use Rattle.omp_model.specs.declared.history.What.{What}
 use Rattle.omp_model.specs.declared.history.What.TheVariants.{Go, Put, Back}
-use Rattle.omp_model.specs.Changes.{emptied, finished, gone_past, is_fresh, met, opened, passed, popped, readied, started, taken_up, task_made}
+use Rattle.omp_model.specs.Changes.{without_code, with_finished_task, with_masked_skipped, is_fresh, with_member_meeting, with_members_invited, with_barrier_passed, without_current_task, with_ready_task, with_started_task, taken_up, task_made}
 use Rattle.omp_model.specs.Gates.{arrival, is_barrier}
-use Rattle.omp_model.specs.Going.{Happens, after_meeting_at, after_sync, barrier_met, effect_of, effect_of_point, event_of_point, executes_point, fault_of, fault_of_point, going_by, going_in_code, has_forked, member_code, past_point, told, work_met}
+use Rattle.omp_model.specs.EventEffects.{Happens, after_meeting_at, after_sync, barrier_met, effect_of, effect_of_point, event_of_point, executes_point, fault_of, fault_of_point, going_by, go_of_code, has_forked, member_code, past_point, told, work_met}
 use Rattle.omp_model.specs.Legal.{after, back_from, does, put_from}
 use Rattle.omp_model.specs.Members.{code_of, current, current_index, current_region, is_member, is_outermost, moment_of, view_of}
 use Rattle.omp_model.specs.Returning.{at_back}
@@ -84,7 +84,7 @@ module _ (run : Run) (T S : Tree → Type 0) (rules : AreRules T S)
 
   -- ---- silent steps
 
-  pub all-past : (W : World) (t : ℕ) → AllHold W → AllHold (gone_past W t)
+  pub all-past : (W : World) (t : ℕ) → AllHold W → AllHold (with_masked_skipped W t)
   all-past W t all = changed W (current W t) _ all (holds-settled T S AnyTree AnyEnd rules any-single (view_of W t) (code_of W t) (all (current W t)))
 
   all-by : (W : World) (t : ℕ) → AllHold W → (outcome : Outcome) → silent run.program (view_of W t) (moment_of W t) ≡ outcome →
@@ -114,13 +114,13 @@ module _ (run : Run) (T S : Tree → Type 0) (rules : AreRules T S)
   all-either W one other false first second = second
 
   all-met : (W : World) (t : ℕ) (what : Meeting) → AllHold W → AllHold (after_meeting_at W t what)
-  all-met W t what all = all-either W (met W (current_region W t) (current_index W t) what) W (is_member W t) all all
+  all-met W t what all = all-either W (with_member_meeting W (current_region W t) (current_index W t) what) W (is_member W t) all all
 
   all-synced : (W : World) (t codeptr : ℕ) (which : SyncKind) (at : SyncStage) → AllHold W → AllHold (after_sync W t codeptr which at)
   all-synced W t codeptr which stage.RegionBegin all =
       all-either W (after_meeting_at W t (barrier_met codeptr which)) W (is_barrier which) (all-met W t (barrier_met codeptr which) all) all
   all-synced W t codeptr which stage.WaitEnd all =
-      all-either W (passed W (current_region W t) (current_index W t)) W (is_barrier which) all all
+      all-either W (with_barrier_passed W (current_region W t) (current_index W t)) W (is_barrier which) all all
   all-synced W t codeptr which other all = all
 
   module _ (W : World) (t : ℕ) (all : AllHold W) where
@@ -158,22 +158,22 @@ module _ (run : Run) (T S : Tree → Type 0) (rules : AreRules T S)
     code-by next e (Traps trap) is happens = cc
     code-by next e (Limits limit) is happens = cc
 
-    in-code : (next : World) (e : Event) → going_in_code run W t ≡ Happens e next → AllHold next
-    unfolding going_in_code
+    in-code : (next : World) (e : Event) → go_of_code run W t ≡ Happens e next → AllHold next
+    unfolding go_of_code
     in-code next e happens = code-by next e (silent run.program (view_of W t) (told W t)) refl happens
 
   -- ---- an event beside all code
 
-  all-started : (W : World) (k : ℕ) → AllHold W → AllHold (started W k)
+  all-started : (W : World) (k : ℕ) → AllHold W → AllHold (with_started_task W k)
   all-started W k all = all-either W W (record W { pool = _ }) (is_finished (pooled_at W k).condition) all all
 
-  all-finished : (W : World) (k : ℕ) → AllHold W → AllHold (finished W k)
+  all-finished : (W : World) (k : ℕ) → AllHold W → AllHold (with_finished_task W k)
   all-finished W k all = all-either W (record W { pool = _ }) W (is_under_way (pooled_at W k).condition) all all
 
   all-taken : (W : World) (t k : ℕ) → AllHold W → AllHold (taken_up W t k)
   all-taken W t k all = changed W k (record (task_at W k) { thread = t }) all (all k)
 
-  all-emptied : (W : World) (k : ℕ) → AllHold W → AllHold (emptied W k)
+  all-emptied : (W : World) (k : ℕ) → AllHold W → AllHold (without_code W k)
   all-emptied W k all = changed W k _ all (holds-blank T S AnyTree AnyEnd rules any-single)
 
   member-holds : (code : Code) → Holds code → Holds (member_code code)
@@ -186,15 +186,15 @@ module _ (run : Run) (T S : Tree → Type 0) (rules : AreRules T S)
   all-beside : (W : World) (t : ℕ) (e : Event) → AllHold W → AllHold (effect_of W t e)
   unfolding effect_of
   all-beside W t event.InitialTaskBegin all = all-started (taken_up W t INITIAL_TASK) INITIAL_TASK (all-taken W t INITIAL_TASK all)
-  all-beside W t event.InitialTaskEnd all = all-finished (popped W t) INITIAL_TASK all
+  all-beside W t event.InitialTaskEnd all = all-finished (without_current_task W t) INITIAL_TASK all
   all-beside W t (event.MemberBegin r k) all =
       let parent = (region_at W r).head.task in
       let code = member_code (task_at W parent).code in
       let fresh = task_made W parent r kind.Implicit code in
-      all-taken (started fresh k) t k (all-started fresh k (added W (task_with code) all (member-holds (task_at W parent).code (all parent))))
-  all-beside W t (event.MemberEnd r k) all = all-emptied (finished (popped W t) k) k (all-finished (popped W t) k all)
+      all-taken (with_started_task fresh k) t k (all-started fresh k (added W (task_with code) all (member-holds (task_at W parent).code (all parent))))
+  all-beside W t (event.MemberEnd r k) all = all-emptied (with_finished_task (without_current_task W t) k) k (all-finished (without_current_task W t) k all)
   all-beside W t (event.TaskBegin prior k) all = all-started (taken_up W t k) k (all-taken W t k all)
-  all-beside W t (event.TaskEnd k) all = all-emptied (popped W t) k all
+  all-beside W t (event.TaskEnd k) all = all-emptied (without_current_task W t) k all
   all-beside W t other all = all
 
   all-go : (W next : World) (t : ℕ) (e : Event) → AllHold W → GoOf run W t e next → AllHold next
@@ -204,10 +204,10 @@ module _ (run : Run) (T S : Tree → Type 0) (rules : AreRules T S)
 
   -- ---- a Back, and a word that is stored
 
-  all-opened : (W : World) (t r : ℕ) → AllHold W → AllHold (opened W t r)
+  all-opened : (W : World) (t r : ℕ) → AllHold W → AllHold (with_members_invited W t r)
   all-opened W t r all = all-either W _ _ (is_outermost W r) all all
 
-  all-readied : (W : World) (k : ℕ) → AllHold W → AllHold (readied W k)
+  all-readied : (W : World) (k : ℕ) → AllHold W → AllHold (with_ready_task W k)
   all-readied W k all = all-either W (record W { pool = _ }) W (is_fresh (pooled_at W k).condition) all all
 
   all-back : (W : World) (t : ℕ) (e : Event) → AllHold W → AllHold (at_back W t e)

@@ -10,7 +10,7 @@ use Rattle.c_model.specs.declared.point.SyncStage.{SyncStage}
 use Rattle.c_model.specs.declared.point.SyncStage.TheVariants as stage
 use Rattle.c_model.specs.declared.point.WorkKind.{WorkKind}
 use Rattle.c_model.specs.Begin.{blank_task, explicit_task}
-use Rattle.c_model.specs.Going.{after_event}
+use Rattle.c_model.specs.AfterEvents.{after_event}
 use Rattle.c_model.specs.Step.{silent}
 use Rattle.c_model.specs.Task.{Outcome, Task as Code}
 use Rattle.c_model.specs.Task.Outcome.{Asks, Ends, Limits, Occurs, StepsTo, Traps}
@@ -19,15 +19,15 @@ use Rattle.task_pool.specs.Tasks.{is_finished}
 use Rattle.task_pool.specs.View.{with_finished, with_started}
 use Rattle.team_parts.specs.declared.meeting.Meeting.{Meeting}
 use Rattle.omp_model.specs.declared.limits.TheConstants.{INITIAL_TASK}
-use Rattle.omp_model.specs.declared.event.Arrival.TheVariants.{Meets}
+use Rattle.omp_model.specs.declared.event.Arrival.TheVariants.{RuntimeEvent}
 use Rattle.omp_model.specs.declared.event.Endpoint.{Endpoint}
 use Rattle.omp_model.specs.declared.event.Event.{Event}
 use Rattle.omp_model.specs.declared.event.Event.TheVariants as event
 use Rattle.omp_model.specs.State.{Run, Task, Thread, World, is_under_way, no_task, pooled_at, region_at, task_at, task_with, unmade}
 use Rattle.omp_model.specs.Members.{current, current_index, current_region, is_member, view_of}
 use Rattle.omp_model.specs.Gates.{arrival, is_barrier}
-use Rattle.omp_model.specs.Changes.{finished, met, passed, popped, started, taken_up, task_made}
-use Rattle.omp_model.specs.Going.{Happens, after_meeting_at, after_sync, barrier_met, effect_of, effect_of_point, event_of_point, executes_point, fault_of, fault_of_point, going_by, going_in_code, member_code, past_point, told, work_met}
+use Rattle.omp_model.specs.Changes.{with_finished_task, with_member_meeting, with_barrier_passed, without_current_task, with_started_task, taken_up, task_made}
+use Rattle.omp_model.specs.EventEffects.{Happens, after_meeting_at, after_sync, barrier_met, effect_of, effect_of_point, event_of_point, executes_point, fault_of, fault_of_point, going_by, go_of_code, member_code, past_point, told, work_met}
 use Rattle.omp_model.proofs.Arriving.{Arrives, arrives}
 use Rattle.omp_model.proofs.Gos.{unless-goes}
 use Rattle.omp_model.proofs.Later.{at-set}
@@ -76,14 +76,14 @@ same-either W one other false first second = second
 
 same-met : (W : World) (t : ℕ) (what : Meeting) → SameCodes W (after_meeting_at W t what)
 same-met W t what =
-    same-either W (met W (current_region W t) (current_index W t) what) W (is_member W t) (same-tasks W _ refl refl) (same-tasks W W refl refl)
+    same-either W (with_member_meeting W (current_region W t) (current_index W t) what) W (is_member W t) (same-tasks W _ refl refl) (same-tasks W W refl refl)
 
 same-synced : (W : World) (t codeptr : ℕ) (which : SyncKind) (at : SyncStage) → SameCodes W (after_sync W t codeptr which at)
 same-synced W t codeptr which stage.RegionBegin =
     let what = barrier_met codeptr which in
     same-either W (after_meeting_at W t what) W (is_barrier which) (same-met W t what) (same-tasks W W refl refl)
 same-synced W t codeptr which stage.WaitEnd =
-    same-either W (passed W (current_region W t) (current_index W t)) W (is_barrier which) (same-tasks W _ refl refl) (same-tasks W W refl refl)
+    same-either W (with_barrier_passed W (current_region W t) (current_index W t)) W (is_barrier which) (same-tasks W _ refl refl) (same-tasks W W refl refl)
 same-synced W t codeptr which other = same-tasks W W refl refl
 
 module _ (run : Run) (W : World) (t : ℕ) where
@@ -148,8 +148,8 @@ module _ (run : Run) (W : World) (t : ℕ) where
   occurred-by after e (Traps trap) occurs happens = cc
   occurred-by after e (Limits limit) occurs happens = cc
 
-  occurred-in-code : (after : World) (e : Event) → going_in_code run W t ≡ Happens e after → Occurred run W t e
-  unfolding going_in_code
+  occurred-in-code : (after : World) (e : Event) → go_of_code run W t ≡ Happens e after → Occurred run W t e
+  unfolding go_of_code
   occurred-in-code after e happens = occurred-by after e (silent run.program (view_of W t) (told W t)) refl happens
 
   gone-by : (after : World) (e : Event) (outcome : Outcome) → silent run.program (view_of W t) (told W t) ≡ outcome →
@@ -163,9 +163,9 @@ module _ (run : Run) (W : World) (t : ℕ) where
   gone-by after e (Traps trap) occurs happens k below = cc
   gone-by after e (Limits limit) occurs happens k below = cc
 
-  gone-in-code : (after : World) (e : Event) → going_in_code run W t ≡ Happens e after → (k : ℕ) → k < length W.tasks →
+  gone-in-code : (after : World) (e : Event) → go_of_code run W t ≡ Happens e after → (k : ℕ) → k < length W.tasks →
       IsLeft W after k ⊎ IsPast run W after t e k
-  unfolding going_in_code
+  unfolding go_of_code
   gone-in-code after e happens k below = gone-by after e (silent run.program (view_of W t) (told W t)) refl happens k below
 
 -- ---- events beside all code
@@ -179,10 +179,10 @@ finished-tasks : (b : Bool) (W other : World) → other.tasks ≡ W.tasks → (i
 finished-tasks true W other is = is
 finished-tasks false W other is = refl
 
-start-tasks : (W : World) (k : ℕ) → (started W k).tasks ≡ W.tasks
+start-tasks : (W : World) (k : ℕ) → (with_started_task W k).tasks ≡ W.tasks
 start-tasks W k = started-tasks (is_finished (pooled_at W k).condition) W (record W { pool = with_started W.pool k }) refl
 
-finish-tasks : (W : World) (k : ℕ) → (finished W k).tasks ≡ W.tasks
+finish-tasks : (W : World) (k : ℕ) → (with_finished_task W k).tasks ≡ W.tasks
 finish-tasks W k = finished-tasks (is_under_way (pooled_at W k).condition) W (record W { pool = with_finished W.pool k }) refl
 
 abbrev code-in : List Task → ℕ → Code
@@ -202,18 +202,18 @@ gone-beside : (W : World) (t : ℕ) (e : Event) (k : ℕ) → k < length W.tasks
 unfolding effect_of
 gone-beside W t event.InitialTaskBegin k below =
     inl (ap (λ (tasks : List Task). code-in tasks k) (start-tasks (taken_up W t INITIAL_TASK) INITIAL_TASK) ∙ taken-code W t INITIAL_TASK k)
-gone-beside W t event.InitialTaskEnd k below = inl (ap (λ (tasks : List Task). code-in tasks k) (finish-tasks (popped W t) INITIAL_TASK))
+gone-beside W t event.InitialTaskEnd k below = inl (ap (λ (tasks : List Task). code-in tasks k) (finish-tasks (without_current_task W t) INITIAL_TASK))
 gone-beside W t (event.MemberBegin r j) k below =
     let parent = (region_at W r).head.task in
     let code = member_code (task_at W parent).code in
     let fresh = task_made W parent r kind.Implicit code in
-    inl (taken-code (started fresh j) t j k
+    inl (taken-code (with_started_task fresh j) t j k
     ∙ ap (λ (tasks : List Task). code-in tasks k) (start-tasks fresh j)
     ∙ ap (λ (x : Task). x.code) (get_or_append_left W.tasks (task_with code ∷ []) no_task k below))
 gone-beside W t (event.MemberEnd r j) k below =
-    let over = finished (popped W t) j in
+    let over = with_finished_task (without_current_task W t) j in
     subst (λ (tasks : List Task). (code-in (slice_set over.tasks j (record (task_at over j) { code = blank_task })) k ≡ code-in tasks k)
-    ⊎ (code-in (slice_set over.tasks j (record (task_at over j) { code = blank_task })) k ≡ blank_task)) (finish-tasks (popped W t) j)
+    ⊎ (code-in (slice_set over.tasks j (record (task_at over j) { code = blank_task })) k ≡ blank_task)) (finish-tasks (without_current_task W t) j)
     (emptied-code over.tasks j k (record (task_at over j) { code = blank_task }) refl)
 gone-beside W t (event.TaskBegin prior j) k below =
     inl (ap (λ (tasks : List Task). code-in tasks k) (start-tasks (taken_up W t j) j) ∙ taken-code W t j k)
@@ -229,7 +229,7 @@ codes-gone run W after t e (Beside meets happens) k below =
     inl (unless-goes (λ which next. IsLeft W next k) (fault_of W t e) e e (effect_of W t e) after (λ fine. gone-beside W t e k below) happens)
 
 -- no work begins or ends beside all code
-beside-work : (W : World) (t : ℕ) (at : Endpoint) (which : WorkKind) (count codeptr : ℕ) → arrival W t ≡ Meets (event.Work at which count codeptr) → ⊥
+beside-work : (W : World) (t : ℕ) (at : Endpoint) (which : WorkKind) (count codeptr : ℕ) → arrival W t ≡ RuntimeEvent (event.Work at which count codeptr) → ⊥
 beside-work W t at which count codeptr meets = subst (Arrives W t) meets (arrives W t)
 
 pub work-occurred : (run : Run) (W after : World) (t : ℕ) (at : Endpoint) (which : WorkKind) (count codeptr : ℕ) →

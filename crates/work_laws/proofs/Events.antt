@@ -10,7 +10,7 @@ use Rattle.c_brackets.specs.Opened.Open.{Works}
 use Rattle.task_pool.specs.declared.task.Task.{Task as PoolTask}
 use Rattle.team_parts.specs.Team.{TeamView, last_number, member_at, no_meeting}
 use Rattle.omp_model.specs.declared.limits.TheConstants.{IMPLICIT_REGION}
-use Rattle.omp_model.specs.declared.event.Arrival.TheVariants.{Comes, Meets}
+use Rattle.omp_model.specs.declared.event.Arrival.TheVariants.{CodeEvent, RuntimeEvent}
 use Rattle.omp_model.specs.declared.event.Callback.{Callback}
 use Rattle.omp_model.specs.declared.event.Endpoint.TheVariants.{End}
 use Rattle.omp_model.specs.declared.event.Event.{Event}
@@ -20,7 +20,7 @@ use Rattle.omp_model.specs.declared.parts.RegionHead.{RegionHead}
 use Rattle.omp_model.proofs.Arrivals.{IsFree}
 use Rattle.omp_model.specs.Conditions.{IsOrderly}
 use Rattle.omp_model.specs.Gates.{arrival}
-use Rattle.omp_model.specs.Made.{IsMadeState, IsThread}
+use Rattle.omp_model.specs.MadeWorld.{IsMadeState, IsThread}
 use Rattle.omp_model.specs.Members.{current, current_index, current_region, current_team, is_explicit_task, member_index, region_of}
 use Rattle.omp_model.specs.State.{Run, State, Thread, World, pending_at, pooled_at, region_at, thread_at}
 use Rattle.omp_model.proofs.Touching.{thread_after}
@@ -198,10 +198,10 @@ module _ (W after : World) (t : ℕ) (told : Tellings) (still : IsStill W after 
 -- ---- the event
 
 -- a share that was taken is told, and no other event comes before that
-dispatch-only : (run : Run) (W after : World) (t : ℕ) (e : Event) (share : Share) → GoOf run W t e after → arrival W t ≡ Meets (Dispatch share) →
+dispatch-only : (run : Run) (W after : World) (t : ℕ) (e : Event) (share : Share) → GoOf run W t e after → arrival W t ≡ RuntimeEvent (Dispatch share) →
     e ≡ Dispatch share
-dispatch-only run W after t e share (OfCode comes happens) is = let wrong : Comes ≡ Meets (Dispatch share) = sym comes ∙ is in cc
-dispatch-only run W after t e share (Beside meets happens) is = let same : Meets e ≡ Meets (Dispatch share) = sym meets ∙ is in cc
+dispatch-only run W after t e share (OfCode comes happens) is = let wrong : CodeEvent ≡ RuntimeEvent (Dispatch share) = sym comes ∙ is in cc
+dispatch-only run W after t e share (Beside meets happens) is = let same : RuntimeEvent e ≡ RuntimeEvent (Dispatch share) = sym meets ∙ is in cc
 
 module _ (run : Run) (S next : State) (met : IsMet run S) (t : ℕ) (told : Tellings) (W : World) (on : On run S met t told W)
     (made : IsMadeState run next) (orderly : IsOrderly next) (there : IsThread S.world t) (outside : inside S t ≡ None) where

@@ -1,6 +1,6 @@
 -- The Go of an event keeps what is so of teams and of their members' codes.
 use Rattle.c_model.specs.declared.point.Work.{Work as Working}
-use Rattle.c_model.specs.Going.{tree_at_event}
+use Rattle.c_model.specs.AfterEvents.{tree_at_event}
 use Rattle.std.specs.Prelude.{Option}
 use Rattle.c_model.specs.declared.point.WorkKind.TheVariants as work_kind
 use Rattle.team_parts.specs.declared.meeting.Meeting.TheVariants as meeting
@@ -38,8 +38,8 @@ use Rattle.omp_model.specs.declared.event.Event.{Event}
 use Rattle.omp_model.specs.declared.event.Event.TheVariants.{Masked, ParallelBegin, Sync, Work}
 use Rattle.omp_model.specs.Conditions.{has_started}
 use Rattle.omp_model.specs.Gates.{is_barrier}
-use Rattle.omp_model.specs.Going.{barrier_met, event_of_point, executes_point, told}
-use Rattle.omp_model.specs.Made.{IsTask}
+use Rattle.omp_model.specs.EventEffects.{barrier_met, event_of_point, executes_point, told}
+use Rattle.omp_model.specs.MadeWorld.{IsTask}
 use Rattle.omp_model.specs.Members.{code_of, current, current_index, current_region, current_team, is_explicit_task, member_index, moment_of, region_of, view_of}
 use Rattle.omp_model.specs.State.{Region, Run, World, fresh_team, no_region, pooled_at, region_at, task_at}
 use Rattle.omp_model.proofs.Touching.{AtBarrierElse, Meets, MeetsWork, SameTeam}

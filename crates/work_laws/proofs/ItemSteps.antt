@@ -38,16 +38,16 @@ use Rattle.c_model.specs.Calls.{begin_call, begin_lock_call, begin_return_of, be
 use Rattle.c_model.specs.Cells.{Bound, cell_at, entry_of, has_too_many, with_cells, with_declarator}
 use Rattle.c_model.specs.declared.limits.TheConstants.{CALLS, CALL_LIMIT, CELLS}
 use Rattle.c_model.specs.Clauses.{condition_of, construct_statement, has_nowait, requested_threads, schedule_of, sections_of}
-use Rattle.c_model.specs.Coming.{binds, bound_of, goes_on, goes_on_with, scope_of, sets, value_here, with_result}
+use Rattle.c_model.specs.StepOutcomes.{binds, bound_of, goes_on, goes_on_with, scope_of, sets, value_here, with_result}
 use Rattle.c_model.specs.Constructs.{begin_loop, begin_masked, begin_parallel, begin_sections, begin_task, iterations_from, reduction_result, value_or}
 use Rattle.c_model.specs.Copies.{combines, makes_cells, with_own_cells}
-use Rattle.c_model.specs.Going.{after_answer, after_event, answered_at, items_after, items_answered, items_of_chunk, items_of_section, items_of_test, next_stage, passed_at, single_items, tree_at_event, work_items}
+use Rattle.c_model.specs.AfterEvents.{after_answer, after_event, answered_at, items_after, items_answered, items_of_chunk, items_of_section, items_of_test, next_stage, passed_at, single_items, tree_at_event, work_items}
 use Rattle.c_model.specs.Loops.{iteration_count, loop_of}
 use Rattle.c_model.specs.Parts.{flat_declarations, has_child, parts}
 use Rattle.c_model.specs.Program.{body_of, function_named, place_of}
 use Rattle.c_model.specs.Statements.{assigns, begin_local_set, begin_set_to_call, begin_set_to_value, branch_taken, declares, makes_first_step, makes_step, new_number, setting_of, test_for, test_value}
-use Rattle.c_model.specs.Step.{begin_construct, begin_inside, begin_standalone, begin_statement, is_passed_over, items_from_next, settled_moment, settled_task, silent, step_at, step_of}
-use Rattle.c_model.specs.Task.{Here, Item, Moment, OpenCall, Outcome, SharedLoop, Store, Task as Code, items_of_parts}
+use Rattle.c_model.specs.Step.{begin_construct, begin_inside, begin_standalone, begin_statement, skips_masked, items_from_next, settled_moment, settled_task, silent, step_at, step_of}
+use Rattle.c_model.specs.Task.{StepStart, Item, Moment, OpenCall, Outcome, SharedLoop, Store, Task as Code, items_of_parts}
 use Rattle.c_model.specs.Task.Item.{Start, Declare, Leave, Test, Third, Initialise, Return, FallOff, Forked, Inside, MakeCells, NextChunk, Iterations, NextSection, Combine, EndWork, EndMasked, Sync, Acquire, Release, TestLock, Tested}
 use Rattle.c_model.specs.Task.Outcome.{Asks, Limits, Occurs, StepsTo}
 use Rattle.c_model.specs.Value.{all_values, cell_of, is_zero}
@@ -161,7 +161,7 @@ module _ (T S A : Tree → Type 0) (E : WorkKind → Type 0) (rules : AreRules T
       both T S A E (makes_cells (tree_at_event item)) (work_items what (tree_at_event item) names executes) (making T S A E (tree_at_event item))
       (worked what (tree_at_event item) names executes is may)
 
-  module _ (here : Here) (rest : Are here.task.todo) (calls : AreCalls T S A E here.task.calls)
+  module _ (here : StepStart) (rest : Are here.task.todo) (calls : AreCalls T S A E here.task.calls)
       (functions : (name : ℕ) → T (body_of (function_named here.program name))) (item : Item) where
     moves : (items : List Item) (env : List Entry) (store : Store) → Are items
         → Keeps item (StepsTo (record { task = record here.task { todo = items ++ here.task.todo; env = env }; store = store }))
@@ -264,7 +264,7 @@ module _ (T S A : Tree → Type 0) (E : WorkKind → Type 0) (rules : AreRules T
         keeps-event item _ construct (begun (place_of construct) (work.Sections (length (sections_of construct))) item is)
         (is.self, (ap place_of (sym same), ap (λ (tree : Tree). length (sections_of tree)) (sym same)))
 
-  module _ (here : Here) (rest : Are here.task.todo) (calls : AreCalls T S A E here.task.calls)
+  module _ (here : StepStart) (rest : Are here.task.todo) (calls : AreCalls T S A E here.task.calls)
       (functions : (name : ℕ) → T (body_of (function_named here.program name))) where
     parallel : (construct : Tree) → IsOpenable (tree_at_event (Start construct)) → Keeps (Start construct) (begin_parallel here construct)
     parallel construct is =
@@ -431,7 +431,7 @@ module _ (T S A : Tree → Type 0) (E : WorkKind → Type 0) (rules : AreRules T
   unfolding items_from_next
   from-next view [] are = tt
   from-next view (item ∷ items) are =
-      settled-if (is_passed_over item view) item items (items_from_next view items) (from-next view items are.1) are
+      settled-if (skips_masked item view) item items (items_from_next view items) (from-next view items are.1) are
 
   pub holds-settled : (view : View) (code : Code) → Holds code → Holds (settled_task view code)
   holds-settled view code holds = record { now = from-next view code.todo holds.now; calls = holds.calls }

@@ -26,7 +26,7 @@ use Rattle.omp_model.specs.declared.event.Share.{Share}
 use Rattle.omp_model.specs.declared.event.Share.TheVariants.{Section}
 use Rattle.omp_model.proofs.Alike.{what_met}
 use Rattle.omp_model.proofs.Arrivals.{IsInTask}
-use Rattle.omp_model.specs.Changes.{gone_past}
+use Rattle.omp_model.specs.Changes.{with_masked_skipped}
 use Rattle.omp_model.specs.Gates.{arrival}
 use Rattle.omp_model.specs.Members.{current, current_index, current_region, current_team, moment_of, view_of}
 use Rattle.omp_model.specs.Silent.{Goes, Silence, Stops, answer_to, answered, share_taken, silence_of, silent_step}
@@ -100,7 +100,7 @@ module _ (run : Run) (S : State) (met : IsMet run S) (t : ℕ) (told : Tellings)
     pub known : Known W
     pub next : NextAt W
 
-  share-past : (W : World) → OnShare W → OnShare (gone_past W t)
+  share-past : (W : World) → OnShare W → OnShare (with_masked_skipped W t)
   share-past W so =
       record {
         on = on-past run S met t told W so.on;

@@ -21,7 +21,7 @@ use Rattle.omp_model.specs.declared.history.What.TheVariants.{Go, Put, Back}
 use Rattle.omp_model.specs.Conditions.{IsOrderly}
 use Rattle.omp_model.specs.Gates.{is_barrier}
 use Rattle.omp_model.specs.Legal.{AllowsFrom, Legal, after, after_from, does, entered, may, put_from}
-use Rattle.omp_model.specs.Made.{IsMadeState, IsTask}
+use Rattle.omp_model.specs.MadeWorld.{IsMadeState, IsTask}
 use Rattle.omp_model.specs.Members.{current_index, current_region, region_of}
 use Rattle.omp_model.specs.State.{Region, Run, State, Task, Thread, World, first, first_world, no_region, no_task, pending_at, region_at, task_at, thread_at}
 use Rattle.omp_model.proofs.Touching.{Returns, is_summoned, team_back, thread_back}

@@ -16,7 +16,7 @@ use Rattle.c_model.specs.declared.question.Ask.TheVariants as ask
 use Rattle.c_model.specs.declared.view.View.{View}
 use Rattle.c_model.specs.Asked.{count_asked, sections_asked}
 use Rattle.c_model.specs.Clauses.{statements_among}
-use Rattle.c_model.specs.Going.{after_answer, tree_at_event}
+use Rattle.c_model.specs.AfterEvents.{after_answer, tree_at_event}
 use Rattle.c_model.specs.Parts.{flat_declarations, parts}
 use Rattle.c_model.specs.Program.{place_of}
 use Rattle.c_model.specs.Step.{settled_task, silent}
@@ -38,8 +38,8 @@ use Rattle.omp_model.specs.declared.event.Event.TheVariants.{Dispatch}
 use Rattle.omp_model.specs.declared.event.Share.{Share}
 use Rattle.omp_model.proofs.Alike.{AlikeWorld}
 use Rattle.omp_model.proofs.Arrivals.{IsInTask}
-use Rattle.omp_model.specs.Changes.{gone_past, gone_to, sharing, with_team}
-use Rattle.omp_model.specs.Made.{IsTask}
+use Rattle.omp_model.specs.Changes.{with_masked_skipped, gone_to, with_taken_share, with_team}
+use Rattle.omp_model.specs.MadeWorld.{IsTask}
 use Rattle.omp_model.specs.Members.{code_of, current, current_index, current_region, current_team, is_explicit_task, is_member, member_index, moment_of, region_of, view_of}
 use Rattle.omp_model.specs.Silent.{answer_to, answered, answered_by, items_asking, share_of_chunk, share_of_section, share_taken, team_after}
 use Rattle.omp_model.specs.State.{Region, Run, Task, World, no_region, no_task, region_at, task_at}
@@ -174,11 +174,11 @@ same-open code next same free = ap (λ (opened : List Open). list_any is_work op
 
 module _ (W : World) (t : ℕ) (told : Tellings) (tells : Tells W told) where
   -- what the task goes past
-  pub tells-past : IsAsked W → Tells (gone_past W t) told
+  pub tells-past : IsAsked W → Tells (with_masked_skipped W t) told
   tells-past asked =
       let k = current W t in
       let view = view_of W t in
-      let after = gone_past W t in
+      let after = with_masked_skipped W t in
       let now : Moment = record { task = settled_task view (code_of W t); store = W.store } in
       record {
         teams = tells.teams;
@@ -270,7 +270,7 @@ module _ (W : World) (t : ℕ) (told : Tellings) (tells : Tells W told) where
       now = after_answer view given moment
 
       abbrev after : World
-      after = with_team (sharing (gone_to W k now) t share) r next
+      after = with_team (with_taken_share (gone_to W k now) t share) r next
 
       abbrev region : Region
       region = record (region_at W r) { team = next }

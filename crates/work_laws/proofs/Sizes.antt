@@ -14,7 +14,7 @@ use Rattle.c_model.specs.Task.{Item}
 use Rattle.c_model.specs.Task.Outcome.{Occurs}
 use Rattle.team_parts.specs.declared.meeting.Schedule.TheVariants as dealt
 use Rattle.omp_model.specs.declared.history.Entry.{Entry}
-use Rattle.omp_model.specs.Going.{dealt_by, told}
+use Rattle.omp_model.specs.EventEffects.{dealt_by, told}
 use Rattle.omp_model.specs.Legal.{after}
 use Rattle.omp_model.specs.Members.{view_of}
 use Rattle.omp_model.specs.State.{Run}

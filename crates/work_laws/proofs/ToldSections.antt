@@ -30,7 +30,7 @@ use Rattle.omp_model.specs.declared.history.What.{What}
 use Rattle.omp_model.specs.declared.history.What.TheVariants.{Go, Put, Back}
 use Rattle.omp_model.specs.Conditions.{IsOrderly}
 use Rattle.omp_model.specs.Legal.{AllowsFrom, Legal, after, after_from, does, entered, may, put_from}
-use Rattle.omp_model.specs.Made.{IsMadeState, IsThread}
+use Rattle.omp_model.specs.MadeWorld.{IsMadeState, IsThread}
 use Rattle.omp_model.specs.Members.{current_index, current_region, current_team}
 use Rattle.omp_model.specs.State.{Region, Run, State, World, first, no_region, pending_at, region_at}
 use Rattle.omp_model.specs.Turn.{enabled, turn, called}

@@ -2,7 +2,7 @@
 use Rattle.std.proofs.Common.{ℕ, zero, suc, ◌≡◌, ◌+◌, nat_le, nat_lt, Bool, true, false, if◌then◌else◌, Option, Some, None, refl, sym, ap, ◌∙◌}
 use Rattle.omp_model.specs.declared.limits.TheConstants.{STEPS, STEPS_OF_A_TURN, TURNS, TURN_LIMIT}
 use Rattle.omp_model.specs.declared.event.Arrival.{Arrival}
-use Rattle.omp_model.specs.declared.event.Arrival.TheVariants.{Comes, Meets, Steps, Waits}
+use Rattle.omp_model.specs.declared.event.Arrival.TheVariants.{CodeEvent, RuntimeEvent, Steps, Waits}
 use Rattle.omp_model.specs.declared.event.Event.{Event}
 use Rattle.omp_model.specs.declared.event.Event.TheVariants.{Dispatch}
 use Rattle.omp_model.specs.declared.event.Halt.{Halt}
@@ -12,10 +12,10 @@ use Rattle.omp_model.specs.declared.event.Outcome.TheVariants as outcome
 use Rattle.omp_model.specs.declared.event.Share.{Share}
 use Rattle.omp_model.specs.State.{Run, State, World}
 use Rattle.omp_model.specs.Gates.{arrival}
-use Rattle.omp_model.specs.Changes.{gone_past}
+use Rattle.omp_model.specs.Changes.{with_masked_skipped}
 use Rattle.omp_model.specs.Silent.{Goes, Silence, Stops, silent_step}
-use Rattle.omp_model.specs.Going.{Going, Halts, Happens, Nothing, effect_of, fault_of, going_in_code, unless}
-use Rattle.omp_model.specs.Turn.{Turn, Walk, after_steps, after_walk, counted, going_past, halted, stepped, turn, unlimited, walk, walk_by, walk_on, walked, with_going, without_event}
+use Rattle.omp_model.specs.EventEffects.{Going, Halts, Happens, Nothing, effect_of, fault_of, go_of_code, unless}
+use Rattle.omp_model.specs.Turn.{Turn, Walk, after_steps, after_walk, counted, state_past_masked, halted, stepped, turn, unlimited, walk, walk_by, walk_on, walked, with_going, without_event}
 use Rattle.omp_model.proofs.GonePast.{comes-past}
 use Rattle.omp_model.proofs.Turning.{AfterSilence, Beside, GoFrom, GoOf, OfCode}
 
@@ -24,24 +24,24 @@ abbrev pub Ended : Run → (World → Type 0) → (World → Type 0) → ℕ →
 Ended run P N t after (outcome.Happens e) = GoFrom run P t e after
 Ended run P N t after other = N after
 
-module _ (run : Run) (t : ℕ) (P N : World → Type 0) (past : (W : World) → P W → P (gone_past W t)) (told-past : (W : World) → N W → N (gone_past W t))
+module _ (run : Run) (t : ℕ) (P N : World → Type 0) (past : (W : World) → P W → P (with_masked_skipped W t)) (told-past : (W : World) → N W → N (with_masked_skipped W t))
     (silent : (W : World) → arrival W t ≡ Steps → P W → AfterSilence P (silent_step run W t))
-    (quiet : (W : World) → P W → ((share : Share) → arrival W t ≡ Meets (Dispatch share) → ⊥) → N W) where
+    (quiet : (W : World) → P W → ((share : Share) → arrival W t ≡ RuntimeEvent (Dispatch share) → ⊥) → N W) where
   record Walked (w : Walk) : Type 0 where
     holds : P w.state.world
     stopped : (halt : Halt) → w.stop ≡ Some halt → N w.state.world
 
-  apart : (one other : Arrival) (W : World) → arrival W t ≡ one → ((share : Share) → one ≡ Meets (Dispatch share) → ⊥) → (share : Share) →
-      arrival W t ≡ Meets (Dispatch share) → ⊥
+  apart : (one other : Arrival) (W : World) → arrival W t ≡ one → ((share : Share) → one ≡ RuntimeEvent (Dispatch share) → ⊥) → (share : Share) →
+      arrival W t ≡ RuntimeEvent (Dispatch share) → ⊥
   apart one other W is differs share met = differs share (sym is ∙ met)
 
-  steps-apart : (share : Share) → Steps ≡ Meets (Dispatch share) → ⊥
+  steps-apart : (share : Share) → Steps ≡ RuntimeEvent (Dispatch share) → ⊥
   steps-apart share is = cc
 
-  waits-apart : (share : Share) → Waits ≡ Meets (Dispatch share) → ⊥
+  waits-apart : (share : Share) → Waits ≡ RuntimeEvent (Dispatch share) → ⊥
   waits-apart share is = cc
 
-  comes-apart : (share : Share) → Comes ≡ Meets (Dispatch share) → ⊥
+  comes-apart : (share : Share) → CodeEvent ≡ RuntimeEvent (Dispatch share) → ⊥
   comes-apart share is = cc
 
   -- ---- silent steps
@@ -56,10 +56,10 @@ module _ (run : Run) (t : ℕ) (P N : World → Type 0) (past : (W : World) → 
 
   on-step : (S : State) (made : ℕ) (over : Bool) (more : World → Walk) → P S.world → N S.world → AfterSilence P (silent_step run S.world t) →
       ((W : World) → P W → Walked (more W)) →
-      Walked (if over then walked S made (Some (Limit STEPS)) else walk_by (going_past S t) made (silent_step run S.world t) more)
+      Walked (if over then walked S made (Some (Limit STEPS)) else walk_by (state_past_masked S t) made (silent_step run S.world t) more)
   on-step S made true more holds told next goes = record { holds = holds; stopped = λ other is. told }
   on-step S made false more holds told next goes =
-      by-walk (going_past S t) made (silent_step run S.world t) more (past S.world holds) (told-past S.world told) next goes
+      by-walk (state_past_masked S t) made (silent_step run S.world t) more (past S.world holds) (told-past S.world told) next goes
 
   on-walk : (S : State) (made : ℕ) (next : Arrival) (more : World → Walk) → arrival S.world t ≡ next → P S.world → ((W : World) → P W →
       Walked (more W)) →
@@ -89,7 +89,7 @@ module _ (run : Run) (t : ℕ) (P N : World → Type 0) (past : (W : World) → 
   of-going S made (Happens e after) holds told go = record { before = S.world; holds = holds; go = go e after refl }
   of-going S made (Halts halt) holds told go = told
 
-  of-beside : (S : State) (made : ℕ) (which : Event) (halt : Option Halt) → fault_of S.world t which ≡ halt → arrival S.world t ≡ Meets which →
+  of-beside : (S : State) (made : ℕ) (which : Event) (halt : Option Halt) → fault_of S.world t which ≡ halt → arrival S.world t ≡ RuntimeEvent which →
       P S.world →
       ((other : Halt) → halt ≡ Some other → N S.world) →
       let now = with_going S made t (unless halt which (effect_of S.world t which)) in Ended run P N t now.state.world now.outcome
@@ -102,25 +102,25 @@ module _ (run : Run) (t : ℕ) (P N : World → Type 0) (past : (W : World) → 
       }
 
   -- a dispatch meets no limit
-  unlimited-dispatch : (S : State) (which : Event) → P S.world → arrival S.world t ≡ Meets which → (other : Halt) →
+  unlimited-dispatch : (S : State) (which : Event) → P S.world → arrival S.world t ≡ RuntimeEvent which → (other : Halt) →
       fault_of S.world t which ≡ Some other →
       N S.world
   unfolding fault_of
   unlimited-dispatch S (Dispatch share) holds is other fault = cc
   unlimited-dispatch S which holds is other fault = quiet S.world holds (λ share met. different share (sym is ∙ met))
     where
-      different : (share : Share) → Meets which ≡ Meets (Dispatch share) → ⊥
+      different : (share : Share) → RuntimeEvent which ≡ RuntimeEvent (Dispatch share) → ⊥
       different share same = cc
 
   of-steps : (S : State) (made : ℕ) (next : Arrival) → arrival S.world t ≡ next → P S.world →
       Ended run P N t (after_steps run S made t next).state.world (after_steps run S made t next).outcome
   of-steps S made Waits is holds = of-none S made (quiet S.world holds (apart Waits Waits S.world is waits-apart))
   of-steps S made Steps is holds = of-none S made (quiet S.world holds (apart Steps Steps S.world is steps-apart))
-  of-steps S made Comes is holds =
-      of-going (going_past S t) made (going_in_code run (gone_past S.world t) t) (past S.world holds)
-      (told-past S.world (quiet S.world holds (apart Comes Comes S.world is comes-apart)))
+  of-steps S made CodeEvent is holds =
+      of-going (state_past_masked S t) made (go_of_code run (with_masked_skipped S.world t) t) (past S.world holds)
+      (told-past S.world (quiet S.world holds (apart CodeEvent CodeEvent S.world is comes-apart)))
       (λ e after happens. OfCode (comes-past S.world t is) happens)
-  of-steps S made (Meets which) is holds =
+  of-steps S made (RuntimeEvent which) is holds =
       of-beside S made which (fault_of S.world t which) refl is holds (unlimited-dispatch S which holds is)
 
   of-stop : (w : Walk) (stop : Option Halt) → w.stop ≡ stop → Walked w →

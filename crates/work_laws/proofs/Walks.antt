@@ -9,14 +9,14 @@ use Rattle.c_model.specs.Step.{silent}
 use Rattle.c_model.specs.Task.{Outcome}
 use Rattle.c_model.specs.Task.Outcome.{Asks, Ends, Limits, Occurs, StepsTo, Traps}
 use Rattle.team_parts.specs.declared.meeting.TheConstants.{TEAM_LIMIT}
-use Rattle.omp_model.specs.declared.event.Arrival.TheVariants.{Meets, Steps}
+use Rattle.omp_model.specs.declared.event.Arrival.TheVariants.{RuntimeEvent, Steps}
 use Rattle.omp_model.specs.declared.event.Event.TheVariants.{Dispatch}
 use Rattle.omp_model.specs.declared.event.Share.{Share}
 use Rattle.omp_model.specs.declared.event.Share.TheVariants.{Chunk, Section}
 use Rattle.omp_model.proofs.Arrivals.{IsFree, IsInTask}
-use Rattle.omp_model.specs.Changes.{gone_past, gone_to}
+use Rattle.omp_model.specs.Changes.{with_masked_skipped, gone_to}
 use Rattle.omp_model.specs.Gates.{arrival, arrival_at, arrival_invited, arrival_with_share, arrival_with_undeferred}
-use Rattle.omp_model.specs.Made.{IsThread}
+use Rattle.omp_model.specs.MadeWorld.{IsThread}
 use Rattle.omp_model.specs.Members.{current, current_region, current_team, moment_of, view_of}
 use Rattle.omp_model.specs.Silent.{answer_to, answered, share_taken, silence_of, silent_step}
 use Rattle.omp_model.specs.State.{Run, State, Thread, World, thread_at, unmade}
@@ -36,7 +36,7 @@ use Rattle.work_laws.proofs.Shares.{Tellings, Tells, TellsAt, tells-chunked, tel
 use Rattle.work_laws.proofs.Turns.{Ended, ended-turn}
 
 -- a thread that has taken a share tells it next
-pub share-arrives : (W : World) (t : ℕ) (share : Share) → IsFree W t → (thread_at W t).taken ≡ Some share → arrival W t ≡ Meets (Dispatch share)
+pub share-arrives : (W : World) (t : ℕ) (share : Share) → IsFree W t → (thread_at W t).taken ≡ Some share → arrival W t ≡ RuntimeEvent (Dispatch share)
 unfolding arrival
 share-arrives W t share free taken =
     ap (arrival_at W t) free.stage
@@ -72,7 +72,7 @@ module _ (run : Run) (S : State) (met : IsMet run S) (t : ℕ) (told : Tellings)
   abbrev past-events : List EventRecord
   past-events = met.known.past
 
-  pub on-past : (W : World) → On W → On (gone_past W t)
+  pub on-past : (W : World) → On W → On (with_masked_skipped W t)
   on-past W on =
       let asked = asked-reached run S met t W on.reached in
       record {
@@ -81,7 +81,7 @@ module _ (run : Run) (S : State) (met : IsMet run S) (t : ℕ) (told : Tellings)
           | inl none ↦ inl none
           | inr free ↦ inr (record { stage = free.stage; invited = free.invited; undeferred = free.undeferred })
         ];
-        tells = share-same W (gone_past W t) t (λ q n. refl) told (thread_at W t).taken
+        tells = share-same W (with_masked_skipped W t) t (λ q n. refl) told (thread_at W t).taken
             (tells-past W t (with_share W t (thread_at W t).taken told) on.tells asked);
       }
 
@@ -167,7 +167,7 @@ module _ (run : Run) (S : State) (met : IsMet run S) (t : ℕ) (told : Tellings)
     pub on : On W
     pub none : (thread_at W t).taken ≡ None
 
-  none-quiet : (W : World) → On W → ((share : Share) → arrival W t ≡ Meets (Dispatch share) → ⊥) → (thread_at W t).taken ≡ None
+  none-quiet : (W : World) → On W → ((share : Share) → arrival W t ≡ RuntimeEvent (Dispatch share) → ⊥) → (thread_at W t).taken ≡ None
   none-quiet W on apart = elim on.free [ inl none ↦ none | inr free ↦ none-of free (thread_at W t).taken refl ]
     where
       none-of : IsFree W t → (share : Option Share) → (thread_at W t).taken ≡ share → (thread_at W t).taken ≡ None

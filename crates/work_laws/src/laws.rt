@@ -21,7 +21,7 @@ ghost use Rattle.team_parts.specs.Team.{last_number};
 ghost use Rattle.omp_model.specs.declared.event.Arrival.TheVariants.{Steps};
 ghost use Rattle.omp_model.specs.declared.history.Entry.{Entry};
 ghost use Rattle.omp_model.specs.Gates.{arrival};
-ghost use Rattle.omp_model.specs.Going.{dealt_by, told};
+ghost use Rattle.omp_model.specs.EventEffects.{dealt_by, told};
 ghost use Rattle.omp_model.specs.Legal.{Legal, after};
 ghost use Rattle.omp_model.specs.Members.{current_index, current_region, current_team, moment_of, view_of};
 ghost use Rattle.omp_model.specs.Silent.{answer_to, items_asking};

@@ -2,16 +2,15 @@
 
 ghost use Rattle.std.specs.Prelude.{◌≡◌, ◌<◌, pos, unwrap_or};
 ghost use Rattle.c_syntax.specs.language.Numbered.{TreeView};
-ghost use Rattle.c_model.specs.Task.{Moment};
 ghost use Rattle.c_model.specs.Task.Outcome.{Ends};
 ghost use Rattle.c_model.specs.Step.{silent, step_of};
 ghost use Rattle.c_steps.specs.Advancing.{IsKept, IsNamed};
-ghost use Rattle.c_steps.specs.Held.{Held, here_at, moment_at, outcome_at};
+ghost use Rattle.c_steps.specs.ControlView.{ControlView, here_at, moment_at, outcome_at};
 ghost use Rattle.c_steps.specs.Items.{item_at};
-ghost use Rattle.c_steps.specs.Made.{IsMadeFor};
-ghost use Rattle.c_steps.specs.Ready.{AreFrames, FitsProgram, IsItem, IsSettled, IsStepping, IsUnchanging};
-ghost use Rattle.c_steps.specs.Scopes.{HasNumbers};
-ghost use Rattle.c_steps.specs.Widths.{step_names};
+ghost use Rattle.c_steps.specs.OfProgram.{IsMadeFor};
+ghost use Rattle.c_steps.specs.Ready.{FitsProgram, IsItem};
+ghost use Rattle.c_steps.specs.Views.{HasNumbers};
+ghost use Rattle.c_steps.specs.Steps.{Advances, CanStep, Tells};
 
 use crate::cells::Cells;
 use crate::code::Code;
@@ -46,11 +45,8 @@ impl Control {
 
     /// The code has ended, with the value of the last call, or 0.
     fn ended(&self) -> Next
-        ensures step { (program : TreeView) (now : Moment) →
-            outcome_at program result now ≡ Ends (unwrap_or self.now.returned (pos 0)) }
-        ensures unchanged { IsUnchanging result }
-        ensures numbers { (program : TreeView) → FitsProgram program result }
-        ensures named { (program : TreeView) (held : Held) → IsNamed program result held }
+        ensures tells { (program : TreeView) → Tells program result (Ends (unwrap_or self.now.returned (pos 0))) }
+        ensures named { (program : TreeView) (held : ControlView) → IsNamed program result held }
     {
         match self.returned {
             Some(number) => Next::Ended(number),
@@ -61,15 +57,10 @@ impl Control {
     /// The step of what stands next: one line for each item.
     #[inline(always)]
     fn advance_item(&mut self, code: &Code, cells: &mut Cells, view: View, item: Item) -> Next
-        requires ready { IsStepping code.now self.old }
+        requires ready { CanStep code.now view self.old }
         requires item { IsItem code.now item }
-        requires view { HasNumbers view }
-        requires step_names { self.old.step_names ≡ step_names code.now }
-        ensures step { outcome_at code.now result (moment_at code.now self.new cells.new) ≡
-            step_of (item_at code.now item) (here_at code.now view self.old cells.old) }
-        ensures settled { IsSettled result self.old cells.old self.new cells.new }
-        ensures numbers { FitsProgram code.now result }
-        ensures frames { AreFrames code.now self.new.frames }
+        ensures { Advances code.now result self.old cells.old self.new cells.new
+            (step_of (item_at code.now item) (here_at code.now view self.old cells.old)) }
     {
         match item {
             Item::Start(part) => self.begin_statement(code, cells, view, part),

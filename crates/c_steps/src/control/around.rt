@@ -3,7 +3,7 @@
 ghost use Rattle.std.specs.Prelude.{◌≡◌};
 ghost use Rattle.c_model.specs.Upcoming.{has_such, is_in_critical, is_in_exclusive, is_in_work};
 ghost use Rattle.c_steps.specs.Around.{frame_has, is_such, item_is};
-ghost use Rattle.c_steps.specs.Held.{task_at};
+ghost use Rattle.c_steps.specs.ControlView.{task_at};
 
 use crate::code::Code;
 use crate::control::Control;

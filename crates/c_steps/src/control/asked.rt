@@ -4,9 +4,9 @@ ghost use Rattle.std.specs.Prelude.{◌≡◌, IfSome};
 ghost use Rattle.std.specs.Option.{option_map};
 ghost use Rattle.c_syntax.specs.language.Numbered.{TreeView};
 ghost use Rattle.c_model.specs.Asked.{count_asked, count_of_item, sections_asked, sections_of_item};
-ghost use Rattle.c_steps.specs.Held.{task_at};
+ghost use Rattle.c_steps.specs.ControlView.{task_at};
 ghost use Rattle.c_steps.specs.Items.{item_at};
-ghost use Rattle.c_steps.specs.Made.{IsMadeFor};
+ghost use Rattle.c_steps.specs.OfProgram.{IsMadeFor};
 ghost use Rattle.c_steps.specs.Ready.{IsItem};
 
 use crate::clauses::section_count;

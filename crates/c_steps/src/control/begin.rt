@@ -1,11 +1,9 @@
 //! Where the code of a task begins.
 
 ghost use Rattle.std.specs.Prelude.{◌≡◌, ◌+◌, ◌*◌, IfOk, OnErr, OnOk};
-ghost use Rattle.c_model.specs.Begin.{main_task, new_task};
-ghost use Rattle.c_model.specs.Calls.{file_bound};
-ghost use Rattle.c_model.specs.Width.{most_of_functions};
-ghost use Rattle.c_steps.specs.Held.{task_at};
-ghost use Rattle.c_steps.specs.Made.{IsBlank, IsMadeFor, blank_held};
+ghost use Rattle.c_model.specs.Begin.{main_task};
+ghost use Rattle.c_steps.specs.ControlView.{task_at};
+ghost use Rattle.c_steps.specs.OfProgram.{IsBlank, IsMadeFor, blank_held};
 ghost use Rattle.c_steps.specs.Moves.{cleared, roomy};
 ghost use Rattle.c_steps.specs.declared.control.begin.TheConstants.{STEPS};
 

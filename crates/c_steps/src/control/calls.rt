@@ -10,14 +10,14 @@ ghost use Rattle.c_model.specs.Cells.{entry_of};
 ghost use Rattle.c_model.specs.Parts.{parts};
 ghost use Rattle.c_model.specs.Value.{all_values};
 ghost use Rattle.c_steps.specs.Arguments.{without_values};
-ghost use Rattle.c_steps.specs.Held.{env_at, here_at, moment_at, next_of_call, outcome_at, scope_in};
+ghost use Rattle.c_steps.specs.ControlView.{env_at, here_at, next_of_call, scope_in};
 ghost use Rattle.c_steps.specs.Moves.{cells_given, closed, delivered, env_with, given_back, last_call};
 ghost use Rattle.c_steps.specs.Nodes.{IsPart, part_at};
-ghost use Rattle.c_steps.specs.Ready.{AreFrames, FitsProgram, IsSettled, IsStepping};
+ghost use Rattle.c_steps.specs.Ready.{IsStepping};
 ghost use Rattle.c_steps.specs.Rooming.{IsEntry};
-ghost use Rattle.c_steps.specs.Scopes.{HasNumbers};
+ghost use Rattle.c_steps.specs.Views.{HasNumbers};
+ghost use Rattle.c_steps.specs.Steps.{Advances, CanStep, Tells};
 ghost use Rattle.c_steps.specs.Trying.{IsAttempt};
-ghost use Rattle.c_steps.specs.Widths.{step_names};
 
 use crate::cells::Cells;
 use crate::code::Code;
@@ -37,15 +37,10 @@ impl Control {
         view: View,
         node: u32,
     ) -> Next
-        requires ready { IsStepping code.now self.old }
+        requires ready { CanStep code.now view self.old }
         requires node { node < length code.now.trees }
-        requires view { HasNumbers view }
-        requires step_names { self.old.step_names ≡ step_names code.now }
-        ensures step { outcome_at code.now result (moment_at code.now self.new cells.new) ≡
-            calls.begin_called (here_at code.now view self.old cells.old) (tree_at code.now.trees node) }
-        ensures settled { IsSettled result self.old cells.old self.new cells.new }
-        ensures numbers { FitsProgram code.now result }
-        ensures frames { AreFrames code.now self.new.frames }
+        ensures { Advances code.now result self.old cells.old self.new cells.new
+            (calls.begin_called (here_at code.now view self.old cells.old) (tree_at code.now.trees node)) }
     {
         let call = code.child(Some(node), 0);
         self.begin_right(code, cells, view, call, None, Target::Nowhere)
@@ -59,15 +54,10 @@ impl Control {
         view: View,
         node: u32,
     ) -> Next
-        requires ready { IsStepping code.now self.old }
+        requires ready { CanStep code.now view self.old }
         requires node { node < length code.now.trees }
-        requires view { HasNumbers view }
-        requires step_names { self.old.step_names ≡ step_names code.now }
-        ensures step { outcome_at code.now result (moment_at code.now self.new cells.new) ≡
-            calls.begin_set_call (here_at code.now view self.old cells.old) (tree_at code.now.trees node) }
-        ensures settled { IsSettled result self.old cells.old self.new cells.new }
-        ensures numbers { FitsProgram code.now result }
-        ensures frames { AreFrames code.now self.new.frames }
+        ensures { Advances code.now result self.old cells.old self.new cells.new
+            (calls.begin_set_call (here_at code.now view self.old cells.old) (tree_at code.now.trees node)) }
     {
         match self.place_cell(code, cells, view, code.child(Some(node), 0)) {
             Err(trap) => Next::Trap(trap),
@@ -88,25 +78,14 @@ impl Control {
         node: u32,
         entry: Entry,
     ) -> Next
-        requires ready { IsStepping code.now self.old }
+        requires ready { CanStep code.now view self.old }
         requires node { (node < length code.now.trees) × IsEntry entry }
-        requires view { HasNumbers view }
-        requires step_names { self.old.step_names ≡ step_names code.now }
-        ensures step { outcome_at code.now result (moment_at code.now self.new cells.new) ≡
-            calls.begin_initialise (here_at code.now view self.old cells.old) (tree_at code.now.trees node) entry }
-        ensures settled { IsSettled result self.old cells.old self.new cells.new }
-        ensures numbers { FitsProgram code.now result }
-        ensures frames { AreFrames code.now self.new.frames }
+        ensures { Advances code.now result self.old cells.old self.new cells.new
+            (calls.begin_initialise (here_at code.now view self.old cells.old) (tree_at code.now.trees node) entry) }
     {
         let call = code.child(Some(node), 0);
-        self.begin_right(
-            code,
-            cells,
-            view,
-            call,
-            Some(entry),
-            Target::Cell(entry.first),
-        )
+        let to = Target::Cell(entry.first);
+        self.begin_right(code, cells, view, call, Some(entry), to)
     }
 
     /// `return`, of nothing, of a call, or of an expression.
@@ -117,26 +96,16 @@ impl Control {
         view: View,
         node: u32,
     ) -> Next
-        requires ready { IsStepping code.now self.old }
+        requires ready { CanStep code.now view self.old }
         requires node { node < length code.now.trees }
-        requires view { HasNumbers view }
-        requires step_names { self.old.step_names ≡ step_names code.now }
-        ensures step { outcome_at code.now result (moment_at code.now self.new cells.new) ≡
-            calls.begin_return (here_at code.now view self.old cells.old) (tree_at code.now.trees node) }
-        ensures settled { IsSettled result self.old cells.old self.new cells.new }
-        ensures numbers { FitsProgram code.now result }
-        ensures frames { AreFrames code.now self.new.frames }
+        ensures { Advances code.now result self.old cells.old self.new cells.new
+            (calls.begin_return (here_at code.now view self.old cells.old) (tree_at code.now.trees node)) }
     {
         let right = code.child(Some(node), 0);
         match code.kind(right) {
-            NodeKind::Call | NodeKind::TestLock => self.begin_right(
-                code,
-                cells,
-                view,
-                right,
-                None,
-                Target::Return,
-            ),
+            NodeKind::Call | NodeKind::TestLock => {
+                self.begin_right(code, cells, view, right, None, Target::Return)
+            }
             _ => match self.value(code, cells, view, right) {
                 Err(trap) => Next::Trap(trap),
                 Ok(number) => self.returns(code, cells, view, number),
@@ -154,16 +123,11 @@ impl Control {
         declared: Option<Entry>,
         to: Target,
     ) -> Next
-        requires ready { IsStepping code.now self.old }
+        requires ready { CanStep code.now view self.old }
         requires call { IsPart code.now.trees call × IfSome declared IsEntry }
-        requires view { HasNumbers view }
-        requires step_names { self.old.step_names ≡ step_names code.now }
-        ensures step { outcome_at code.now result (moment_at code.now self.new cells.new) ≡
-            calls.begin_right (kind_of (part_at code.now.trees call)) (here_at code.now view self.old cells.old)
-            (part_at code.now.trees call) (env_with declared (env_at code.now self.old)) to }
-        ensures settled { IsSettled result self.old cells.old self.new cells.new }
-        ensures numbers { FitsProgram code.now result }
-        ensures frames { AreFrames code.now self.new.frames }
+        ensures { Advances code.now result self.old cells.old self.new cells.new
+            (calls.begin_right (kind_of (part_at code.now.trees call)) (here_at code.now view self.old cells.old)
+            (part_at code.now.trees call) (env_with declared (env_at code.now self.old)) to) }
     {
         match call {
             Some(node) => match code.kind(call) {
@@ -178,10 +142,8 @@ impl Control {
     #[inline(never)]
     fn begin_test(&self, code: &Code, cells: &Cells, view: View, call: u32, to: Target) -> Next
         requires { call < length code.now.trees }
-        ensures step { outcome_at code.now result (moment_at code.now self.now cells.now) ≡
-            calls.begin_test (here_at code.now view self.now cells.now) (tree_at code.now.trees call) to }
-        ensures unchanged { IsSettled result self.now cells.now self.now cells.now }
-        ensures numbers { FitsProgram code.now result }
+        ensures { Tells code.now result
+            (calls.begin_test (here_at code.now view self.now cells.now) (tree_at code.now.trees call) to) }
     {
         let point = Point::MutexAcquire {
             codeptr: code.place(call),
@@ -214,16 +176,11 @@ impl Control {
         declared: Option<Entry>,
         to: Target,
     ) -> Next
-        requires ready { IsStepping code.now self.old }
+        requires ready { CanStep code.now view self.old }
         requires call { IsPart code.now.trees call × IfSome declared IsEntry }
-        requires view { HasNumbers view }
-        requires step_names { self.old.step_names ≡ step_names code.now }
-        ensures step { outcome_at code.now result (moment_at code.now self.new cells.new) ≡
-            calls.begin_call (here_at code.now view self.old cells.old) (part_at code.now.trees call)
-            (env_with declared (env_at code.now self.old)) to }
-        ensures settled { IsSettled result self.old cells.old self.new cells.new }
-        ensures numbers { FitsProgram code.now result }
-        ensures frames { AreFrames code.now self.new.frames }
+        ensures { Advances code.now result self.old cells.old self.new cells.new
+            (calls.begin_call (here_at code.now view self.old cells.old) (part_at code.now.trees call)
+            (env_with declared (env_at code.now self.old)) to) }
     {
         begun_call(self.start_call(code, cells, view, call, declared, to))
     }
@@ -239,13 +196,11 @@ impl Control {
         call: Option<u32>,
         to: Target,
     ) -> bool
-        requires ready { IsStepping code.now self.old }
+        requires ready { CanStep code.now view self.old }
         requires call { IsPart code.now.trees call }
-        requires view { HasNumbers view }
-        requires step_names { self.old.step_names ≡ step_names code.now }
-        ensures { IsAttempt code.now (calls.begin_right (kind_of (part_at code.now.trees call))
-            (here_at code.now view self.old cells.old) (part_at code.now.trees call) (env_at code.now self.old) to)
-            result self.old cells.old self.new cells.new }
+        ensures { IsAttempt code.now result self.old cells.old self.new cells.new
+            (calls.begin_right (kind_of (part_at code.now.trees call)) (here_at code.now view self.old cells.old)
+            (part_at code.now.trees call) (env_at code.now self.old) to) }
     {
         match code.kind(call) {
             NodeKind::TestLock => false,
@@ -264,15 +219,11 @@ impl Control {
         declared: Option<Entry>,
         to: Target,
     ) -> Result<(), Refusal>
-        requires ready { IsStepping code.now self.old }
+        requires ready { CanStep code.now view self.old }
         requires call { IsPart code.now.trees call × IfSome declared IsEntry }
-        requires view { HasNumbers view }
-        requires step_names { self.old.step_names ≡ step_names code.now }
-        ensures step { outcome_at code.now (next_of_call result) (moment_at code.now self.new cells.new) ≡
-            calls.begin_call (here_at code.now view self.old cells.old) (part_at code.now.trees call)
-            (env_with declared (env_at code.now self.old)) to }
-        ensures settled { IsSettled (next_of_call result) self.old cells.old self.new cells.new }
-        ensures frames { AreFrames code.now self.new.frames }
+        ensures { Advances code.now (next_of_call result) self.old cells.old self.new cells.new
+            (calls.begin_call (here_at code.now view self.old cells.old) (part_at code.now.trees call)
+            (env_with declared (env_at code.now self.old)) to) }
     {
         match self.check_arguments(code, cells, view, call) {
             Err(trap) => Err(Refusal::Trap(trap)),
@@ -322,11 +273,8 @@ impl Control {
         number: i32,
     ) -> Next
         requires { IsStepping code.now self.old }
-        ensures step { outcome_at code.now result (moment_at code.now self.new cells.new) ≡
-            calls.returns (here_at code.now view self.old cells.old) number }
-        ensures settled { IsSettled result self.old cells.old self.new cells.new }
-        ensures numbers { FitsProgram code.now result }
-        ensures frames { AreFrames code.now self.new.frames }
+        ensures { Advances code.now result self.old cells.old self.new cells.new
+            (calls.returns (here_at code.now view self.old cells.old) number) }
     {
         self.step();
         self.give_back(cells, number);
@@ -339,8 +287,7 @@ impl Control {
         ensures held { self.new ≡ record
             (given_back (last_call self.old.frames) number (closed self.old)) { returned = Some number } }
         ensures cells { cells.new ≡ record cells.old {
-          cells = cells_given
-              (last_call self.old.frames) number cells.old.cells;
+          cells = cells_given (last_call self.old.frames) number cells.old.cells;
         } }
     {
         if let Some(to) = self.close() {
@@ -372,11 +319,8 @@ impl Control {
         to: Target,
     ) -> Next
         requires { IsStepping code.now self.old }
-        ensures step { outcome_at code.now result (moment_at code.now self.new cells.new) ≡
-            calls.ends_test (here_at code.now view self.old cells.old) to }
-        ensures settled { IsSettled result self.old cells.old self.new cells.new }
-        ensures numbers { FitsProgram code.now result }
-        ensures frames { AreFrames code.now self.new.frames }
+        ensures { Advances code.now result self.old cells.old self.new cells.new
+            (calls.ends_test (here_at code.now view self.old cells.old) to) }
     {
         self.step();
         self.deliver(cells, to, 1);
@@ -394,10 +338,8 @@ impl Control {
         node: u32,
     ) -> Next
         requires { node < length code.now.trees }
-        ensures step { outcome_at code.now result (moment_at code.now self.now cells.now) ≡
-            calls.begin_lock_call which (here_at code.now view self.now cells.now) (tree_at code.now.trees node) }
-        ensures unchanged { IsSettled result self.now cells.now self.now cells.now }
-        ensures numbers { FitsProgram code.now result }
+        ensures { Tells code.now result
+            (calls.begin_lock_call which (here_at code.now view self.now cells.now) (tree_at code.now.trees node)) }
     {
         let codeptr = code.place(node);
         let wait_id = self.lock_id(code, node);

@@ -7,16 +7,15 @@ ghost use Rattle.c_check.specs.Loops.{child_at};
 ghost use Rattle.c_check.specs.Seen.{slot_of_name};
 ghost use Rattle.c_model.specs.declared.limits.TheConstants.{CELL_LIMIT};
 ghost use Rattle.c_model.specs.Cells.{with_cells};
-ghost use Rattle.c_model.specs.Coming.{binds, bound_of};
+ghost use Rattle.c_model.specs.StepOutcomes.{binds, bound_of};
 ghost use Rattle.c_model.specs.Statements as statements;
 ghost use Rattle.c_model.specs.Task.{is_declarator};
-ghost use Rattle.c_steps.specs.Held.{here_at, moment_at, outcome_at};
+ghost use Rattle.c_steps.specs.ControlView.{here_at};
 ghost use Rattle.c_steps.specs.Items.{items_if};
 ghost use Rattle.c_steps.specs.Nodes.{IsPart, part_at};
-ghost use Rattle.c_steps.specs.Ready.{AreFrames, FitsProgram, IsItem, IsSettled, IsStepping};
+ghost use Rattle.c_steps.specs.Ready.{IsItem, IsStepping};
 ghost use Rattle.c_steps.specs.Rooming.{IsEntry};
-ghost use Rattle.c_steps.specs.Scopes.{HasNumbers};
-ghost use Rattle.c_steps.specs.Widths.{step_names};
+ghost use Rattle.c_steps.specs.Steps.{Advances, CanStep};
 
 use crate::cells::Cells;
 use crate::code::Code;
@@ -30,17 +29,12 @@ impl Control {
     /// A declarator of a block.
     #[inline(always)]
     pub(super) fn declare(&mut self, code: &Code, cells: &mut Cells, view: View, node: u32) -> Next
-        requires ready { IsStepping code.now self.old }
+        requires ready { CanStep code.now view self.old }
         requires node { node < length code.now.trees }
         requires declarator { is_declarator (kind_of (tree_at code.now.trees node)) ≡ true }
-        requires view { HasNumbers view }
-        requires step_names { self.old.step_names ≡ step_names code.now }
-        ensures step { outcome_at code.now result (moment_at code.now self.new cells.new) ≡
-            statements.declares (kind_of (tree_at code.now.trees node)) (here_at code.now view self.old cells.old)
-            (tree_at code.now.trees node) }
-        ensures settled { IsSettled result self.old cells.old self.new cells.new }
-        ensures numbers { FitsProgram code.now result }
-        ensures frames { AreFrames code.now self.new.frames }
+        ensures { Advances code.now result self.old cells.old self.new cells.new
+            (statements.declares (kind_of (tree_at code.now.trees node)) (here_at code.now view self.old cells.old)
+            (tree_at code.now.trees node)) }
     {
         match code.kind(Some(node)) {
             NodeKind::LocalSet => self.set_local(code, cells, view, node),
@@ -55,16 +49,11 @@ impl Control {
 
     /// A declarator that is set to a value or a call.
     fn set_local(&mut self, code: &Code, cells: &mut Cells, view: View, node: u32) -> Next
-        requires ready { IsStepping code.now self.old }
+        requires ready { CanStep code.now view self.old }
         requires node { node < length code.now.trees }
-        requires view { HasNumbers view }
-        requires step_names { self.old.step_names ≡ step_names code.now }
-        ensures step { outcome_at code.now result (moment_at code.now self.new cells.new) ≡
-            statements.begin_local_set (kind_of (child_at (tree_at code.now.trees node) 0))
-            (here_at code.now view self.old cells.old) (tree_at code.now.trees node) }
-        ensures settled { IsSettled result self.old cells.old self.new cells.new }
-        ensures numbers { FitsProgram code.now result }
-        ensures frames { AreFrames code.now self.new.frames }
+        ensures { Advances code.now result self.old cells.old self.new cells.new
+            (statements.begin_local_set (kind_of (child_at (tree_at code.now.trees node) 0))
+            (here_at code.now view self.old cells.old) (tree_at code.now.trees node)) }
     {
         let right = code.child(Some(node), 0);
         match code.kind(right) {
@@ -78,11 +67,8 @@ impl Control {
     fn set_to_call(&mut self, code: &Code, cells: &mut Cells, view: View, node: u32) -> Next
         requires ready { IsStepping code.now self.old }
         requires node { node < length code.now.trees }
-        ensures step { outcome_at code.now result (moment_at code.now self.new cells.new) ≡
-            statements.begin_set_to_call (here_at code.now view self.old cells.old) (tree_at code.now.trees node) }
-        ensures settled { IsSettled result self.old cells.old self.new cells.new }
-        ensures numbers { FitsProgram code.now result }
-        ensures frames { AreFrames code.now self.new.frames }
+        ensures { Advances code.now result self.old cells.old self.new cells.new
+            (statements.begin_set_to_call (here_at code.now view self.old cells.old) (tree_at code.now.trees node)) }
     {
         if !cells.has_room(1) {
             return Next::Limit(CELLS);
@@ -104,18 +90,13 @@ impl Control {
         expression: Option<u32>,
         then: Option<Item>,
     ) -> Next
-        requires ready { IsStepping code.now self.old }
+        requires ready { CanStep code.now view self.old }
         requires name { name < length code.now.trees }
         requires expression { IsPart code.now.trees expression }
         requires then { IfSome then (IsItem code.now) }
-        requires view { HasNumbers view }
-        requires step_names { self.old.step_names ≡ step_names code.now }
-        ensures step { outcome_at code.now result (moment_at code.now self.new cells.new) ≡
-            statements.begin_set_to_value (here_at code.now view self.old cells.old) (tree_at code.now.trees name)
-            (part_at code.now.trees expression) (items_if code.now then) }
-        ensures settled { IsSettled result self.old cells.old self.new cells.new }
-        ensures numbers { FitsProgram code.now result }
-        ensures frames { AreFrames code.now self.new.frames }
+        ensures { Advances code.now result self.old cells.old self.new cells.new
+            (statements.begin_set_to_value (here_at code.now view self.old cells.old) (tree_at code.now.trees name)
+            (part_at code.now.trees expression) (items_if code.now then)) }
     {
         match self.value(code, cells, view, expression) {
             Err(trap) => Next::Trap(trap),
@@ -134,18 +115,14 @@ impl Control {
         number: i32,
         then: Option<Item>,
     ) -> Next
-        requires ready { IsStepping code.now self.old }
+        requires ready { CanStep code.now view self.old }
         requires name { name < length code.now.trees }
         requires then { IfSome then (IsItem code.now) }
-        requires step_names { self.old.step_names ≡ step_names code.now }
-        ensures step { let here = here_at code.now view self.old cells.old in
+        ensures { let here = here_at code.now view self.old cells.old in
             let tree = tree_at code.now.trees name in
-            outcome_at code.now result (moment_at code.now self.new cells.new) ≡
-            binds here (with_cells (bound_of here) (name_of tree) (slot_of_name code.now tree) (number ∷ []))
-            (items_if code.now then) }
-        ensures settled { IsSettled result self.old cells.old self.new cells.new }
-        ensures numbers { FitsProgram code.now result }
-        ensures frames { AreFrames code.now self.new.frames }
+            Advances code.now result self.old cells.old self.new cells.new
+            (binds here (with_cells (bound_of here) (name_of tree) (slot_of_name code.now tree) (number ∷ []))
+            (items_if code.now then)) }
     {
         if !cells.has_room(1) {
             return Next::Limit(CELLS);
@@ -168,17 +145,13 @@ impl Control {
         node: u32,
         count: u32,
     ) -> Next
-        requires ready { IsStepping code.now self.old }
+        requires ready { CanStep code.now view self.old }
         requires node { node < length code.now.trees }
-        requires step_names { self.old.step_names ≡ step_names code.now }
-        ensures step { let here = here_at code.now view self.old cells.old in
+        ensures { let here = here_at code.now view self.old cells.old in
             let tree = tree_at code.now.trees node in
-            outcome_at code.now result (moment_at code.now self.new cells.new) ≡
-            binds here (with_cells (bound_of here) (name_of tree) (slot_of_name code.now tree)
-            (replicate count (pos 0))) [] }
-        ensures settled { IsSettled result self.old cells.old self.new cells.new }
-        ensures numbers { FitsProgram code.now result }
-        ensures frames { AreFrames code.now self.new.frames }
+            Advances code.now result self.old cells.old self.new cells.new
+            (binds here (with_cells (bound_of here) (name_of tree) (slot_of_name code.now tree)
+            (replicate count (pos 0))) []) }
     {
         if !cells.has_room(count as usize) {
             return Next::Limit(CELLS);

@@ -7,21 +7,23 @@ ghost use Rattle.c_model.specs.Calls.{bound_in, open_call, with_parameters};
 ghost use Rattle.c_model.specs.Parts.{parts};
 ghost use Rattle.c_model.specs.Program.{parameters_of};
 ghost use Rattle.c_model.specs.Value.{all_values};
-ghost use Rattle.c_steps.specs.Arguments.{values_in, without_values};
+ghost use Rattle.c_steps.specs.Arguments.{values_in};
 ghost use Rattle.c_steps.specs.Entering.{BindsParameter, HasMore, HaveNoTrap, IsCaller, IsNextArgument, arguments_from, bound_at, caller_scope, moment_entered};
-ghost use Rattle.c_steps.specs.Held.{env_at, here_at, moment_at, scope_in};
+ghost use Rattle.c_steps.specs.ControlView.{env_at, here_at, moment_at, scope_in};
 ghost use Rattle.c_steps.specs.Moves.{bound_if, env_with};
 ghost use Rattle.c_steps.specs.Nodes.{IsPart, part_at};
-ghost use Rattle.c_steps.specs.Ready.{AreFrames, IsAfterStep, IsStepping};
+ghost use Rattle.c_steps.specs.Ready.{AreFrames, IsAfterStep};
 ghost use Rattle.c_steps.specs.Rooming.{IsEntry, open_calls};
-ghost use Rattle.c_steps.specs.Scopes.{HasNumbers, scope_of};
-ghost use Rattle.c_steps.specs.Widths.{step_names};
+ghost use Rattle.c_steps.specs.Scopes.{scope_of};
+ghost use Rattle.c_steps.specs.Steps.{CanStep};
+ghost use Rattle.c_steps.specs.Views.{HasNumbers};
 
 use crate::cells::Cells;
 use crate::code::Code;
 use crate::control::Control;
+use crate::evaluate::Argument;
 use crate::item::Item;
-use crate::scope::{Argument, Scope};
+use crate::scope::Scope;
 use c_model::{Entry, Target, View};
 
 /// The names and the cells of a function that calls, as they were when the call began.
@@ -47,20 +49,17 @@ impl Control {
         declared: Option<Entry>,
         to: Target,
     )
-        requires ready { IsStepping code.now self.old }
+        requires ready { CanStep code.now view self.old }
         requires call { IsPart code.now.trees call }
         requires function { IsPart code.now.trees function }
         requires declared { IfSome declared IsEntry }
-        requires view { HasNumbers view }
-        requires step_names { self.old.step_names ≡ step_names code.now }
         requires values { HaveNoTrap (scope_in code.now view self.old cells.old) (part_at code.now.trees call) 0 }
         requires few { open_calls self.old.frames < CALL_LIMIT }
         requires room { length cells.old.cells + length (parameters_of (part_at code.now.trees function)) ≤ CELL_LIMIT }
         ensures step { moment_at code.now self.new cells.new ≡ moment_entered (here_at code.now view self.old cells.old)
-            (part_at code.now.trees function)
-            (open_call (here_at code.now view self.old cells.old) (env_with declared (env_at code.now self.old)) to)
-            (bound_in (here_at code.now view self.old cells.old) (part_at code.now.trees function)
-            (values_in (all_values (scope_in code.now view self.old cells.old)
+            (part_at code.now.trees function) (open_call (here_at code.now view self.old cells.old)
+            (env_with declared (env_at code.now self.old)) to) (bound_in (here_at code.now view self.old cells.old)
+            (part_at code.now.trees function) (values_in (all_values (scope_in code.now view self.old cells.old)
             (parts (part_at code.now.trees call))))) }
         ensures settled { IsAfterStep self.old self.new }
         ensures frames { AreFrames code.now self.new.frames }
@@ -201,7 +200,8 @@ impl Control {
         view: View,
         caller: Caller,
     ) -> Scope<'a>
-        requires { IsCaller caller self.now cells.now }
+        requires caller { IsCaller caller self.now cells.now }
+        requires view { HasNumbers view }
         ensures tree { result.tree.now ≡ code.now }
         ensures view { result.view ≡ view }
         ensures scope { scope_of result ≡ caller_scope code.now view caller self.now cells.now }

@@ -4,15 +4,17 @@ ghost use Rattle.std.specs.Prelude.{◌≡◌, ◌≤◌, length, drop, IfOk};
 ghost use Rattle.c_model.specs.Cells.{entry_of};
 ghost use Rattle.c_model.specs.Value as values;
 ghost use Rattle.c_model.specs.declared.limits.TheConstants.{CELL_LIMIT};
-ghost use Rattle.c_steps.specs.Held.{env_at, scope_in};
+ghost use Rattle.c_steps.specs.ControlView.{env_at, scope_in};
 ghost use Rattle.c_steps.specs.Nodes.{IsPart, part_at};
 ghost use Rattle.c_steps.specs.Rooming.{AreEntries, IsEntry};
-ghost use Rattle.c_steps.specs.Scopes.{HasNumbers, scope_of};
+ghost use Rattle.c_steps.specs.Scopes.{scope_of};
+ghost use Rattle.c_steps.specs.Views.{HasNumbers};
 
 use crate::cells::Cells;
 use crate::code::Code;
 use crate::control::Control;
-use crate::scope::{Scope, entry_among};
+use crate::in_scope::entry_among;
+use crate::scope::Scope;
 use c_model::{Entry, View};
 
 impl Control {
@@ -20,6 +22,7 @@ impl Control {
     #[tactic(auto, using(crate::proofs::Entries::are_together), unfolding(crate::specs::Items::file_names))]
     #[inline(always)]
     pub(super) fn scope<'a>(&'a self, code: &'a Code, cells: &'a [i32], view: View) -> Scope<'a>
+        requires { HasNumbers view }
         ensures tree { result.tree.now ≡ code.now }
         ensures scope { scope_of result ≡ record { env = env_at code.now self.now; cells = cells.now; view = view } }
         ensures view { result.view ≡ view }

@@ -14,13 +14,12 @@ ghost use Rattle.c_model.specs.declared.point.Work.TheVariants as work;
 ghost use Rattle.c_model.specs.declared.question.Ask.TheVariants as ask;
 ghost use Rattle.c_model.specs.Loops.{loop_of};
 ghost use Rattle.c_model.specs.Program.{place_of};
-ghost use Rattle.c_model.specs.Task.{Moment};
 ghost use Rattle.c_model.specs.Task.Outcome.{Asks, Occurs};
-ghost use Rattle.c_steps.specs.Held.{here_at, moment_at, outcome_at};
+ghost use Rattle.c_steps.specs.ControlView.{here_at};
 ghost use Rattle.c_steps.specs.Items.{loop_at};
 ghost use Rattle.c_steps.specs.LoopNodes.{GoesOn, parts_at};
-ghost use Rattle.c_steps.specs.Ready.{AreFrames, FitsProgram, IsSettled, IsStepping, IsUnchanging};
-ghost use Rattle.c_steps.specs.Scopes.{HasNumbers};
+ghost use Rattle.c_steps.specs.Views.{HasNumbers};
+ghost use Rattle.c_steps.specs.Steps.{Advances, CanStep, Tells};
 
 use crate::cells::Cells;
 use crate::clauses::{condition, requested_threads, schedule, section_count};
@@ -37,15 +36,11 @@ use c_syntax::{Directive, NodeKind, Standalone};
 impl Control {
     /// The construct that a combined directive has inside begins.
     pub(super) fn begin_inside(&mut self, code: &Code, cells: &Cells, view: View, node: u32) -> Next
-        requires ready { IsStepping code.now self.old }
+        requires ready { CanStep code.now view self.old }
         requires node { node < length code.now.trees }
-        requires view { HasNumbers view }
-        ensures step { outcome_at code.now result (moment_at code.now self.new cells.now) ≡
-            steps.begin_inside (kind_of (tree_at code.now.trees node)) (here_at code.now view self.old cells.now)
-            (tree_at code.now.trees node) }
-        ensures settled { IsSettled result self.old cells.now self.new cells.now }
-        ensures frames { AreFrames code.now self.new.frames }
-        ensures numbers { FitsProgram code.now result }
+        ensures { Advances code.now result self.old cells.now self.new cells.now
+            (steps.begin_inside (kind_of (tree_at code.now.trees node)) (here_at code.now view self.old cells.now)
+            (tree_at code.now.trees node)) }
     {
         match code.kind(Some(node)) {
             NodeKind::Construct(Directive::ParallelFor) => self.begin_loop(code, cells, view, node),
@@ -66,10 +61,8 @@ impl Control {
     ) -> Next
         requires node { node < length code.now.trees }
         requires view { HasNumbers view }
-        ensures step { outcome_at code.now result (moment_at code.now self.now cells.now) ≡
-            steps.begin_construct directive (here_at code.now view self.now cells.now) (tree_at code.now.trees node) }
-        ensures unchanged { IsSettled result self.now cells.now self.now cells.now }
-        ensures numbers { FitsProgram code.now result }
+        ensures { Tells code.now result
+            (steps.begin_construct directive (here_at code.now view self.now cells.now) (tree_at code.now.trees node)) }
     {
         match directive {
             Directive::Parallel | Directive::ParallelFor | Directive::ParallelSections => {
@@ -88,10 +81,8 @@ impl Control {
     fn begin_parallel(&self, code: &Code, cells: &Cells, view: View, node: u32) -> Next
         requires node { node < length code.now.trees }
         requires view { HasNumbers view }
-        ensures step { outcome_at code.now result (moment_at code.now self.now cells.now) ≡
-            constructs.begin_parallel (here_at code.now view self.now cells.now) (tree_at code.now.trees node) }
-        ensures unchanged { IsSettled result self.now cells.now self.now cells.now }
-        ensures numbers { FitsProgram code.now result }
+        ensures { Tells code.now result
+            (constructs.begin_parallel (here_at code.now view self.now cells.now) (tree_at code.now.trees node)) }
     {
         match requested_threads(code, node) {
             None => fork(code, node, view.max as i32),
@@ -106,10 +97,8 @@ impl Control {
     fn begin_task(&self, code: &Code, cells: &Cells, view: View, node: u32) -> Next
         requires node { node < length code.now.trees }
         requires view { HasNumbers view }
-        ensures step { outcome_at code.now result (moment_at code.now self.now cells.now) ≡
-            constructs.begin_task (here_at code.now view self.now cells.now) (tree_at code.now.trees node) }
-        ensures unchanged { IsSettled result self.now cells.now self.now cells.now }
-        ensures numbers { FitsProgram code.now result }
+        ensures { Tells code.now result
+            (constructs.begin_task (here_at code.now view self.now cells.now) (tree_at code.now.trees node)) }
     {
         match condition(code, node) {
             None => self.create(code, cells, view, node, 1),
@@ -123,33 +112,27 @@ impl Control {
     /// A task is made whose `if` clause gives this number, if there is room for its cells.
     fn create(&self, code: &Code, cells: &Cells, view: View, node: u32, number: i32) -> Next
         requires node { node < length code.now.trees }
-        ensures step { outcome_at code.now result (moment_at code.now self.now cells.now) ≡
-            constructs.creates (here_at code.now view self.now cells.now) (tree_at code.now.trees node) number }
-        ensures unchanged { IsSettled result self.now cells.now self.now cells.now }
-        ensures numbers { FitsProgram code.now result }
+        requires view { HasNumbers view }
+        ensures { Tells code.now result
+            (constructs.creates (here_at code.now view self.now cells.now) (tree_at code.now.trees node) number) }
     {
         if !self.has_task_room(code, cells, view, node) {
             return Next::Limit(CELLS);
         }
-        let codeptr = code.place(node);
         let undeferred = number == 0;
-        Next::Event(
-            Point::TaskCreate {
-                codeptr,
-                undeferred,
-            },
-            node,
-        )
+        let point = Point::TaskCreate {
+            codeptr: code.place(node),
+            undeferred,
+        };
+        Next::Event(point, node)
     }
 
     /// A loop that is shared out begins with its start and its end.
     pub(super) fn begin_loop(&self, code: &Code, cells: &Cells, view: View, node: u32) -> Next
         requires node { node < length code.now.trees }
         requires view { HasNumbers view }
-        ensures step { outcome_at code.now result (moment_at code.now self.now cells.now) ≡
-            constructs.begin_loop (here_at code.now view self.now cells.now) (tree_at code.now.trees node) }
-        ensures unchanged { IsSettled result self.now cells.now self.now cells.now }
-        ensures numbers { FitsProgram code.now result }
+        ensures { Tells code.now result
+            (constructs.begin_loop (here_at code.now view self.now cells.now) (tree_at code.now.trees node)) }
     {
         let parts = loop_nodes(code, node);
         match self.value(code, cells, view, parts.start) {
@@ -165,11 +148,8 @@ impl Control {
 /// A region is forked, for which so many threads are requested.
 fn fork(code: &Code, node: u32, requested: i32) -> Next
     requires { node < length code.now.trees }
-    ensures step { (now : Moment) →
-        outcome_at code.now result now ≡ Occurs (ParallelBegin (place_of (tree_at code.now.trees node)) requested)
-        (tree_at code.now.trees node) }
-    ensures unchanged { IsUnchanging result }
-    ensures numbers { FitsProgram code.now result }
+    ensures { Tells code.now result
+        (Occurs (ParallelBegin (place_of (tree_at code.now.trees node)) requested) (tree_at code.now.trees node)) }
 {
     let codeptr = code.place(node);
     Next::Event(Point::ParallelBegin { codeptr, requested }, node)
@@ -180,10 +160,7 @@ fn share_loop(code: &Code, node: u32, parts: LoopNodes, start: i32, end: i32) ->
     requires node { node < length code.now.trees }
     requires parts { parts_at code.now.trees parts ≡ loop_of (tree_at code.now.trees node) }
     requires goes_on { GoesOn parts.comparison parts.step }
-    ensures step { (now : Moment) →
-        outcome_at code.now result now ≡ constructs.loop_work (tree_at code.now.trees node) start end }
-    ensures unchanged { IsUnchanging result }
-    ensures numbers { FitsProgram code.now result }
+    ensures { Tells code.now result (constructs.loop_work (tree_at code.now.trees node) start end) }
 {
     let count = iteration_count(parts.comparison, start, end, parts.step);
     let work = loop_work(start, count, parts.step, schedule(code, node));
@@ -206,10 +183,7 @@ fn loop_work(start: i32, count: u64, step: i32, schedule: Schedule) -> Work
 /// Sections that are shared out begin.
 pub(super) fn begin_sections(code: &Code, node: u32) -> Next
     requires { node < length code.now.trees }
-    ensures step { (now : Moment) →
-        outcome_at code.now result now ≡ constructs.begin_sections (tree_at code.now.trees node) }
-    ensures unchanged { IsUnchanging result }
-    ensures numbers { FitsProgram code.now result }
+    ensures { Tells code.now result (constructs.begin_sections (tree_at code.now.trees node)) }
 {
     let work = Work::Sections(section_count(code, node));
     let codeptr = code.place(node);
@@ -219,10 +193,7 @@ pub(super) fn begin_sections(code: &Code, node: u32) -> Next
 /// A statement for one member begins.
 fn begin_single(code: &Code, node: u32) -> Next
     requires { node < length code.now.trees }
-    ensures step { (now : Moment) →
-        outcome_at code.now result now ≡ constructs.begin_single (tree_at code.now.trees node) }
-    ensures unchanged { IsUnchanging result }
-    ensures numbers { FitsProgram code.now result }
+    ensures { Tells code.now result (constructs.begin_single (tree_at code.now.trees node)) }
 {
     let codeptr = code.place(node);
     let work = Work::Single;
@@ -232,10 +203,7 @@ fn begin_single(code: &Code, node: u32) -> Next
 /// A statement for member 0 begins.
 fn begin_masked(code: &Code, node: u32) -> Next
     requires { node < length code.now.trees }
-    ensures step { (now : Moment) →
-        outcome_at code.now result now ≡ constructs.begin_masked (tree_at code.now.trees node) }
-    ensures unchanged { IsUnchanging result }
-    ensures numbers { FitsProgram code.now result }
+    ensures { Tells code.now result (constructs.begin_masked (tree_at code.now.trees node)) }
 {
     let codeptr = code.place(node);
     Next::Event(Point::MaskedBegin { codeptr }, node)
@@ -244,12 +212,9 @@ fn begin_masked(code: &Code, node: u32) -> Next
 /// A critical is asked for.
 fn begin_critical(code: &Code, node: u32) -> Next
     requires { node < length code.now.trees }
-    ensures step { (now : Moment) →
-        outcome_at code.now result now ≡
-        Occurs (MutexAcquire (place_of (tree_at code.now.trees node))
-        (critical_number code.now (tree_at code.now.trees node)) critical nowhere) (tree_at code.now.trees node) }
-    ensures unchanged { IsUnchanging result }
-    ensures numbers { FitsProgram code.now result }
+    ensures { Tells code.now result
+        (Occurs (MutexAcquire (place_of (tree_at code.now.trees node))
+        (critical_number code.now (tree_at code.now.trees node)) critical nowhere) (tree_at code.now.trees node)) }
 {
     let point = Point::MutexAcquire {
         codeptr: code.place(node),
@@ -264,10 +229,7 @@ fn begin_critical(code: &Code, node: u32) -> Next
 #[inline(never)]
 pub(super) fn begin_standalone(code: &Code, which: Standalone, node: u32) -> Next
     requires { node < length code.now.trees }
-    ensures step { (now : Moment) →
-        outcome_at code.now result now ≡ steps.begin_standalone which (tree_at code.now.trees node) }
-    ensures unchanged { IsUnchanging result }
-    ensures numbers { FitsProgram code.now result }
+    ensures { Tells code.now result (steps.begin_standalone which (tree_at code.now.trees node)) }
 {
     match which {
         Standalone::Barrier => synchronise(code, node, SyncKind::Barrier, SyncStage::RegionBegin),
@@ -279,30 +241,21 @@ pub(super) fn begin_standalone(code: &Code, which: Standalone, node: u32) -> Nex
 #[inline(never)]
 pub(super) fn synchronise(code: &Code, node: u32, kind: SyncKind, stage: SyncStage) -> Next
     requires { node < length code.now.trees }
-    ensures step { (now : Moment) →
-        outcome_at code.now result now ≡ constructs.synchronises (tree_at code.now.trees node) kind stage }
-    ensures unchanged { IsUnchanging result }
-    ensures numbers { FitsProgram code.now result }
+    ensures { Tells code.now result (constructs.synchronises (tree_at code.now.trees node) kind stage) }
 {
-    let codeptr = code.place(node);
-    Next::Event(
-        Point::Sync {
-            codeptr,
-            kind,
-            stage,
-        },
-        node,
-    )
+    let point = Point::Sync {
+        codeptr: code.place(node),
+        kind,
+        stage,
+    };
+    Next::Event(point, node)
 }
 
 /// A region that was forked is over.
 #[inline(never)]
 pub(super) fn end_parallel(code: &Code, node: u32) -> Next
     requires { node < length code.now.trees }
-    ensures step { (now : Moment) →
-        outcome_at code.now result now ≡ constructs.end_parallel (tree_at code.now.trees node) }
-    ensures unchanged { IsUnchanging result }
-    ensures numbers { FitsProgram code.now result }
+    ensures { Tells code.now result (constructs.end_parallel (tree_at code.now.trees node)) }
 {
     let codeptr = code.place(node);
     Next::Event(Point::ParallelEnd { codeptr }, node)
@@ -312,10 +265,7 @@ pub(super) fn end_parallel(code: &Code, node: u32) -> Next
 #[inline(never)]
 pub(super) fn end_masked(code: &Code, node: u32) -> Next
     requires { node < length code.now.trees }
-    ensures step { (now : Moment) →
-        outcome_at code.now result now ≡ constructs.end_masked (tree_at code.now.trees node) }
-    ensures unchanged { IsUnchanging result }
-    ensures numbers { FitsProgram code.now result }
+    ensures { Tells code.now result (constructs.end_masked (tree_at code.now.trees node)) }
 {
     let codeptr = code.place(node);
     Next::Event(Point::MaskedEnd { codeptr }, node)
@@ -325,50 +275,35 @@ pub(super) fn end_masked(code: &Code, node: u32) -> Next
 #[inline(never)]
 pub(super) fn end_work(code: &Code, node: u32, kind: WorkKind, count: u64) -> Next
     requires { node < length code.now.trees }
-    ensures step { (now : Moment) →
-        outcome_at code.now result now ≡ constructs.end_work (tree_at code.now.trees node) kind count }
-    ensures unchanged { IsUnchanging result }
-    ensures numbers { FitsProgram code.now result }
+    ensures { Tells code.now result (constructs.end_work (tree_at code.now.trees node) kind count) }
 {
-    let codeptr = code.place(node);
-    Next::Event(
-        Point::WorkEnd {
-            codeptr,
-            kind,
-            count,
-        },
-        node,
-    )
+    let point = Point::WorkEnd {
+        codeptr: code.place(node),
+        kind,
+        count,
+    };
+    Next::Event(point, node)
 }
 
 /// A lock or critical comes to be owned.
 #[inline(never)]
 pub(super) fn acquire(code: &Code, node: u32, kind: MutexKind, wait_id: u32) -> Next
     requires { node < length code.now.trees }
-    ensures step { (now : Moment) →
-        outcome_at code.now result now ≡ constructs.acquires (tree_at code.now.trees node) kind wait_id }
-    ensures unchanged { IsUnchanging result }
-    ensures numbers { FitsProgram code.now result }
+    ensures { Tells code.now result (constructs.acquires (tree_at code.now.trees node) kind wait_id) }
 {
-    let codeptr = code.place(node);
-    Next::Event(
-        Point::MutexAcquired {
-            codeptr,
-            wait_id,
-            kind,
-        },
-        node,
-    )
+    let point = Point::MutexAcquired {
+        codeptr: code.place(node),
+        wait_id,
+        kind,
+    };
+    Next::Event(point, node)
 }
 
 /// A critical is given back.
 #[inline(never)]
 pub(super) fn release(code: &Code, node: u32, wait_id: u32) -> Next
     requires { node < length code.now.trees }
-    ensures step { (now : Moment) →
-        outcome_at code.now result now ≡ constructs.releases (tree_at code.now.trees node) wait_id }
-    ensures unchanged { IsUnchanging result }
-    ensures numbers { FitsProgram code.now result }
+    ensures { Tells code.now result (constructs.releases (tree_at code.now.trees node) wait_id) }
 {
     let point = Point::MutexReleased {
         codeptr: code.place(node),
@@ -381,10 +316,7 @@ pub(super) fn release(code: &Code, node: u32, wait_id: u32) -> Next
 /// The next chunk of a loop is asked for.
 #[inline(never)]
 pub(super) fn next_chunk(shared: Loop) -> Next
-    ensures step { (program : TreeView) (now : Moment) →
-        outcome_at program result now ≡ constructs.next_chunk (loop_at program shared) }
-    ensures unchanged { IsUnchanging result }
-    ensures numbers { (program : TreeView) → FitsProgram program result }
+    ensures { (program : TreeView) → Tells program result (constructs.next_chunk (loop_at program shared)) }
 {
     Next::Ask(Ask::Chunk, shared.construct)
 }
@@ -392,10 +324,7 @@ pub(super) fn next_chunk(shared: Loop) -> Next
 /// The next section of a construct is asked for.
 #[inline(never)]
 pub(super) fn next_section(node: u32) -> Next
-    ensures step { (program : TreeView) (now : Moment) →
-        outcome_at program result now ≡ constructs.next_section (tree_at program.trees node) }
-    ensures unchanged { IsUnchanging result }
-    ensures numbers { (program : TreeView) → FitsProgram program result }
+    ensures { (program : TreeView) → Tells program result (constructs.next_section (tree_at program.trees node)) }
 {
     Next::Ask(Ask::Section, node)
 }
@@ -403,10 +332,7 @@ pub(super) fn next_section(node: u32) -> Next
 /// An `omp_test_lock` asks whether its lock is free.
 #[inline(never)]
 pub(super) fn ask_lock(node: u32, wait_id: u32) -> Next
-    ensures step { (program : TreeView) (now : Moment) →
-        outcome_at program result now ≡ Asks (ask.LockFree wait_id) (tree_at program.trees node) }
-    ensures unchanged { IsUnchanging result }
-    ensures numbers { (program : TreeView) → FitsProgram program result }
+    ensures { (program : TreeView) → Tells program result (Asks (ask.LockFree wait_id) (tree_at program.trees node)) }
 {
     Next::Ask(Ask::LockFree(wait_id), node)
 }

@@ -7,9 +7,9 @@ ghost use Rattle.c_model.specs.declared.limits.TheConstants.{CELL_LIMIT};
 ghost use Rattle.c_model.specs.Begin.{created_construct, explicit_task_of};
 ghost use Rattle.c_model.specs.Copies.{with_task_cells};
 ghost use Rattle.c_steps.specs.Beginning.{IsCreation, created_of};
-ghost use Rattle.c_steps.specs.Held.{bound_in, moment_at, task_at};
+ghost use Rattle.c_steps.specs.ControlView.{bound_in, moment_at, task_at};
 ghost use Rattle.c_steps.specs.Items.{item_at};
-ghost use Rattle.c_steps.specs.Made.{IsMadeFor};
+ghost use Rattle.c_steps.specs.OfProgram.{IsMadeFor};
 ghost use Rattle.c_steps.specs.Ready.{IsItem};
 
 use crate::cells::Cells;

@@ -4,13 +4,13 @@ ghost use Rattle.std.specs.Prelude.{ℕ, ◌≡◌, ◌<◌, ◌+◌, length};
 ghost use Rattle.c_syntax.specs.language.Numbered.{tree_at};
 ghost use Rattle.c_model.specs.declared.question.Answer.TheVariants as of_answer;
 ghost use Rattle.c_model.specs.Answers.{AnswersFirst, AnswersItem, IsChunkAnswer, IsLockAnswer, IsSectionAnswer};
-ghost use Rattle.c_model.specs.Going as going;
-ghost use Rattle.c_steps.specs.Held.{moment_at, task_at};
+ghost use Rattle.c_model.specs.AfterEvents as going;
+ghost use Rattle.c_steps.specs.ControlView.{moment_at, task_at};
 ghost use Rattle.c_steps.specs.Items.{item_at, loop_at, with_file};
-ghost use Rattle.c_steps.specs.Made.{IsMadeFor};
+ghost use Rattle.c_steps.specs.OfProgram.{IsMadeFor};
 ghost use Rattle.c_steps.specs.Moves.{ending};
-ghost use Rattle.c_steps.specs.Passing.{replaced};
-ghost use Rattle.c_steps.specs.Ready.{AreFrames, IsAfterStep, IsItem, IsLoop, IsStepping};
+ghost use Rattle.c_steps.specs.Passing.{IsGiven};
+ghost use Rattle.c_steps.specs.Ready.{IsItem, IsLoop, IsStepping};
 
 use crate::cells::Cells;
 use crate::clauses::{section as nth_section, section_count};
@@ -54,14 +54,10 @@ impl Control {
         requires ready { IsStepping code.now self.old }
         requires item { IsItem code.now item }
         requires answer { AnswersItem (item_at code.now item) answer }
-        ensures task { task_at code.now self.new ≡
-            replaced code.now (going.items_answered answer (item_at code.now item)) self.old }
+        ensures held { IsGiven code.now self.old self.new (going.items_answered answer (item_at code.now item)) }
         ensures cells { cells.new ≡ record cells.old {
-          cells = going.cells_answered answer
-              (item_at code.now item) cells.old.cells;
+          cells = going.cells_answered answer (item_at code.now item) cells.old.cells;
         } }
-        ensures after { IsAfterStep self.old self.new }
-        ensures frames { AreFrames code.now self.new.frames }
     {
         match item {
             Item::NextChunk(shared) => self.give_chunk(code, shared, chunk_in(answer)),
@@ -81,10 +77,7 @@ impl Control {
         requires ready { IsStepping code.now self.old }
         requires shared { IsLoop code.now shared }
         requires chunk { IsChunkAnswer shared.count (of_answer.Chunk chunk) }
-        ensures task { task_at code.now self.new ≡
-            replaced code.now (going.items_of_chunk (loop_at code.now shared) chunk) self.old }
-        ensures after { IsAfterStep self.old self.new }
-        ensures frames { AreFrames code.now self.new.frames }
+        ensures { IsGiven code.now self.old self.new (going.items_of_chunk (loop_at code.now shared) chunk) }
     {
         self.step();
         match chunk {
@@ -126,11 +119,8 @@ impl Control {
     fn give_section(&mut self, code: &Code, node: u32, names: usize, section: Option<u32>)
         requires ready { IsStepping code.now self.old }
         requires node { node < length code.now.trees }
-        ensures task { task_at code.now self.new ≡
-            replaced code.now (going.items_of_section (tree_at code.now.trees node) (with_file code.now names) section)
-            self.old }
-        ensures after { IsAfterStep self.old self.new }
-        ensures frames { AreFrames code.now self.new.frames }
+        ensures { IsGiven code.now self.old self.new
+            (going.items_of_section (tree_at code.now.trees node) (with_file code.now names) section) }
     {
         match section {
             Some(number) => {
@@ -160,11 +150,9 @@ impl Control {
     )
         requires ready { IsStepping code.now self.old }
         requires node { node < length code.now.trees }
-        ensures task { task_at code.now self.new ≡
-            replaced code.now (going.items_of_test (tree_at code.now.trees node) id to free) self.old }
+        ensures held { IsGiven code.now self.old self.new
+            (going.items_of_test (tree_at code.now.trees node) id to free) }
         ensures cells { cells.new ≡ record cells.old { cells = going.cells_of_test to free cells.old.cells } }
-        ensures after { IsAfterStep self.old self.new }
-        ensures frames { AreFrames code.now self.new.frames }
     {
         self.step();
         if free {

@@ -5,17 +5,19 @@ ghost use Rattle.c_syntax.specs.language.Numbered.{TreeView};
 ghost use Rattle.c_model.specs.Cells.{entry_of, first_named};
 ghost use Rattle.c_model.specs.Constructs as constructs;
 ghost use Rattle.c_model.specs.Loops.{iteration_value};
-ghost use Rattle.c_steps.specs.Held.{env_at, here_at, moment_at, outcome_at};
+ghost use Rattle.c_steps.specs.ControlView.{env_at, here_at};
 ghost use Rattle.c_steps.specs.Items.{item_at, loop_at, with_file};
-ghost use Rattle.c_steps.specs.Ready.{AreFrames, AreLoopNumbers, FitsProgram, IsItem, IsLoop, IsSettled, IsStepping};
+ghost use Rattle.c_steps.specs.Ready.{AreLoopNumbers, IsItem, IsLoop, IsStepping};
+ghost use Rattle.c_steps.specs.Steps.{Advances, CanStep};
 
 use crate::cells::Cells;
 use crate::code::Code;
 use crate::control::Control;
+use crate::evaluate::number_in;
+use crate::in_scope::{entry_among, first_named};
 use crate::item::{Item, Loop};
 use crate::next::Next;
 use crate::numbers::reduction_result;
-use crate::scope::{entry_among, first_named, number_in};
 use c_model::View;
 use c_syntax::ReductionOp;
 
@@ -32,15 +34,12 @@ impl Control {
         at: u64,
         upto: u64,
     ) -> Next
-        requires ready { IsStepping code.now self.old }
+        requires ready { CanStep code.now view self.old }
         requires shared { IsLoop code.now shared }
         requires at { at < upto }
         requires upto { upto ≤ shared.count }
-        ensures step { outcome_at code.now result (moment_at code.now self.new cells.new) ≡
-            constructs.begin_iteration (here_at code.now view self.old cells.old) (loop_at code.now shared) at upto }
-        ensures settled { IsSettled result self.old cells.old self.new cells.new }
-        ensures numbers { FitsProgram code.now result }
-        ensures frames { AreFrames code.now self.new.frames }
+        ensures { Advances code.now result self.old cells.old self.new cells.new
+            (constructs.begin_iteration (here_at code.now view self.old cells.old) (loop_at code.now shared) at upto) }
     {
         let cell = self
             .scope(code, cells.items(), view)
@@ -66,19 +65,16 @@ impl Control {
         names: usize,
     ) -> Next
         requires { IsStepping code.now self.old }
-        ensures step { outcome_at code.now result (moment_at code.now self.new cells.new) ≡
-            constructs.combine (here_at code.now view self.old cells.old) operator name (with_file code.now names) }
-        ensures settled { IsSettled result self.old cells.old self.new cells.new }
-        ensures numbers { FitsProgram code.now result }
-        ensures frames { AreFrames code.now self.new.frames }
+        ensures { Advances code.now result self.old cells.old self.new cells.new
+            (constructs.combine (here_at code.now view self.old cells.old) operator name (with_file code.now names)) }
     {
         let around = self.cell_around(code, name, names);
         let own = self.cell_of_copy(code, name, names);
-        match reduction_result(
-            operator,
+        let (held, copy) = (
             number_in(cells.items(), around),
             number_in(cells.items(), own),
-        ) {
+        );
+        match reduction_result(operator, held, copy) {
             Err(trap) => Next::Trap(trap),
             Ok(number) => {
                 self.step();

@@ -9,22 +9,22 @@ ghost use Rattle.c_model.specs.Cells.{entry_of, has_too_many, new_entry};
 ghost use Rattle.c_model.specs.Constructs as constructs;
 ghost use Rattle.c_model.specs.Copies.{listed_variables, loop_slot, with_own_cells, with_task_cells};
 ghost use Rattle.c_model.specs.Loops.{is_declared, loop_of};
-ghost use Rattle.c_steps.specs.Held.{bound_in, here_at, moment_at, outcome_at};
+ghost use Rattle.c_steps.specs.ControlView.{bound_in, here_at};
 ghost use Rattle.c_steps.specs.Items.{file_names};
 ghost use Rattle.c_steps.specs.ListedNames.{listed_of};
 ghost use Rattle.c_steps.specs.Moves.{bound};
 ghost use Rattle.c_steps.specs.Nodes.{IsPart, part_at};
 ghost use Rattle.c_steps.specs.OwnCells.{around_at, copy_numbers_at, listed_copy_at, listed_made_at, own_made_at, slot_copy_at, slots_made_at, task_made_at, with_copy_at, with_made, with_made_cells, with_numbers};
-ghost use Rattle.c_steps.specs.Ready.{AreFrames, FitsProgram, IsSettled, IsStepping};
-ghost use Rattle.c_steps.specs.Widths.{step_names};
+ghost use Rattle.c_steps.specs.Views.{HasNumbers};
+ghost use Rattle.c_steps.specs.Steps.{Advances, CanStep};
 
 use crate::cells::Cells;
 use crate::code::Code;
 use crate::control::Control;
 use crate::copies::{make_copy, room_behind_listed, room_behind_slots};
+use crate::in_scope::{entry_among, slot_entry};
 use crate::listed::{Copying, ListedName, first_listed, is_loop, loop_variable, next_listed};
 use crate::next::Next;
-use crate::scope::{entry_among, slot_entry};
 use c_model::{CELLS, Entry, View};
 use c_syntax::NodeKind;
 
@@ -37,14 +37,10 @@ impl Control {
         view: View,
         node: u32,
     ) -> Next
-        requires ready { IsStepping code.now self.old }
+        requires ready { CanStep code.now view self.old }
         requires node { node < length code.now.trees }
-        requires names { self.old.step_names ≡ step_names code.now }
-        ensures step { outcome_at code.now result (moment_at code.now self.new cells.new) ≡
-            constructs.make_cells (here_at code.now view self.old cells.old) (tree_at code.now.trees node) }
-        ensures settled { IsSettled result self.old cells.old self.new cells.new }
-        ensures numbers { FitsProgram code.now result }
-        ensures frames { AreFrames code.now self.new.frames }
+        ensures { Advances code.now result self.old cells.old self.new cells.new
+            (constructs.make_cells (here_at code.now view self.old cells.old) (tree_at code.now.trees node)) }
     {
         if !self.has_own_room(code, cells, view, node) {
             return Next::Limit(CELLS);
@@ -56,7 +52,8 @@ impl Control {
 
     /// Whether there is room for the cells of a construct's own.
     fn has_own_room(&self, code: &Code, cells: &Cells, view: View, node: u32) -> bool
-        requires { node < length code.now.trees }
+        requires node { node < length code.now.trees }
+        requires view { HasNumbers view }
         ensures { result ≡ not (has_too_many (with_own_cells code.now (bound_in code.now self.now cells.now)
             (tree_at code.now.trees node)).cells) }
     {
@@ -70,18 +67,18 @@ impl Control {
     /// Whether there is room for the cells of a task's own.
     #[tactic(auto, using(crate::proofs::Counting::task_cells_fit, crate::proofs::Counting::task_cells_pass))]
     pub(super) fn has_task_room(&self, code: &Code, cells: &Cells, view: View, node: u32) -> bool
-        requires { node < length code.now.trees }
+        requires node { node < length code.now.trees }
+        requires view { HasNumbers view }
         ensures { result ≡ not (has_too_many (with_task_cells code.now (bound_in code.now self.now cells.now)
             (tree_at code.now.trees node)).cells) }
     {
         let scope = self.scope(code, cells.items(), view);
         match room_behind_listed(code, &scope, node, cells.room()) {
             None => false,
-            Some(room) => room_behind_slots(
-                &scope,
-                code.program().task_copies(node),
-                room,
-            ).is_some(),
+            Some(room) => {
+                let slots = code.program().task_copies(node);
+                room_behind_slots(&scope, slots, room).is_some()
+            }
         }
     }
 

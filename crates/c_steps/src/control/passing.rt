@@ -1,19 +1,19 @@
 //! How a task's code goes on behind an event.
 
-ghost use Rattle.std.specs.Prelude.{◌≡◌, ◌<◌, ◌++◌, [], ◌∷◌, length, drop, IfSome};
+ghost use Rattle.std.specs.Prelude.{◌≡◌, ◌<◌, ◌++◌, [], ◌∷◌, length, IfSome};
 ghost use Rattle.c_syntax.specs.language.Numbered.{TreeView, tree_at};
 ghost use Rattle.c_model.specs.Clauses.{construct_statement};
 ghost use Rattle.c_model.specs.Copies.{makes_cells};
-ghost use Rattle.c_model.specs.Going as going;
+ghost use Rattle.c_model.specs.AfterEvents as going;
 ghost use Rattle.c_model.specs.Loops.{loop_of};
 ghost use Rattle.c_model.specs.Task.Item.{EndMasked, Start};
 ghost use Rattle.c_steps.specs.declared.item.Item.TheVariants as item;
-ghost use Rattle.c_steps.specs.Held.{env_at, task_at};
+ghost use Rattle.c_steps.specs.ControlView.{env_at, task_at};
 ghost use Rattle.c_steps.specs.Items.{item_at, items_if, loop_at, with_file};
-ghost use Rattle.c_steps.specs.Made.{IsMadeFor};
+ghost use Rattle.c_steps.specs.OfProgram.{IsMadeFor};
 ghost use Rattle.c_steps.specs.Moves.{asking};
 ghost use Rattle.c_steps.specs.Nodes.{IsPart, part_at};
-ghost use Rattle.c_steps.specs.Passing.{IsAfterEvent, IsEventOf, IsEventOfNext, names_behind_asking, names_behind_work, replaced, stages_at};
+ghost use Rattle.c_steps.specs.Passing.{IsAfterEvent, IsEventOf, IsEventOfNext, IsPassed, names_behind_asking, names_behind_work, replaced, stages_at};
 ghost use Rattle.c_steps.specs.Rooming.{IsEntry};
 ghost use Rattle.c_steps.specs.Ready.{AreFrames, AreLoopNumbers, AreWorkNumbers, IsItem, IsLoop, IsPassing};
 
@@ -49,14 +49,9 @@ impl Control {
         requires ready { IsPassing code.now self.old }
         requires item { IsItem code.now item }
         requires event { IsEventOf code.now point node (item_at code.now item) }
-        ensures task { task_at code.now self.new ≡
-            record (replaced code.now (going.items_after point executes (length (env_at code.now self.old))
-            (item_at code.now item)) self.old) {
-              env = going.names_after point (item_at code.now item)
-                  (env_at code.now self.old);
-            } }
-        ensures after { IsAfterEvent self.old self.new }
-        ensures frames { AreFrames code.now self.new.frames }
+        ensures { IsPassed code.now self.old self.new
+            (going.items_after point executes (length (env_at code.now self.old)) (item_at code.now item))
+            (going.names_after point (item_at code.now item) (env_at code.now self.old)) }
     {
         match point {
             Point::ParallelBegin { .. } => self.put_instead(code, Some(Item::Forked(node))),
@@ -88,9 +83,7 @@ impl Control {
     fn put_instead(&mut self, code: &Code, item: Option<Item>)
         requires ready { IsPassing code.now self.old }
         requires item { IfSome item (IsItem code.now) }
-        ensures task { task_at code.now self.new ≡ replaced code.now (items_if code.now item) self.old }
-        ensures after { IsAfterEvent self.old self.new }
-        ensures frames { AreFrames code.now self.new.frames }
+        ensures { IsPassed code.now self.old self.new (items_if code.now item) (env_at code.now self.old) }
     {
         self.pass();
         self.then_if(item);
@@ -101,11 +94,9 @@ impl Control {
     fn begin_masked(&mut self, code: &Code, node: u32)
         requires ready { IsPassing code.now self.old }
         requires node { node < length code.now.trees }
-        ensures task { task_at code.now self.new ≡
-            replaced code.now (Start (construct_statement (tree_at code.now.trees node)) ∷
-            EndMasked (tree_at code.now.trees node) ∷ []) self.old }
-        ensures after { IsAfterEvent self.old self.new }
-        ensures frames { AreFrames code.now self.new.frames }
+        ensures { IsPassed code.now self.old self.new
+            (Start (construct_statement (tree_at code.now.trees node)) ∷ EndMasked (tree_at code.now.trees node) ∷ [])
+            (env_at code.now self.old) }
     {
         let part = statement(code, node);
         self.pass();
@@ -119,10 +110,10 @@ impl Control {
         requires ready { IsPassing code.now self.old }
         requires node { node < length code.now.trees }
         requires work { AreWorkNumbers work }
-        ensures task { task_at code.now self.new ≡ replaced code.now (makes_cells (tree_at code.now.trees node) ++
-            going.work_items work (tree_at code.now.trees node) (length (env_at code.now self.old)) executes) self.old }
-        ensures after { IsAfterEvent self.old self.new }
-        ensures frames { AreFrames code.now self.new.frames }
+        ensures { IsPassed code.now self.old self.new
+            (makes_cells (tree_at code.now.trees node) ++
+            going.work_items work (tree_at code.now.trees node) (length (env_at code.now self.old)) executes)
+            (env_at code.now self.old) }
     {
         let (first, last) = work_stages(code, node, self.own_names(), work, executes);
         let cells = own_cells(code, node);
@@ -137,11 +128,9 @@ impl Control {
     fn end_own_names(&mut self, code: &Code, item: Item, node: u32)
         requires ready { IsPassing code.now self.old }
         requires node { node < length code.now.trees }
-        ensures task { task_at code.now self.new ≡
-            record (replaced code.now (going.barrier_items (tree_at code.now.trees node)) self.old)
-            { env = names_behind_work code.now item (env_at code.now self.old) } }
-        ensures after { IsAfterEvent self.old self.new }
-        ensures frames { AreFrames code.now self.new.frames }
+        ensures { IsPassed code.now self.old self.new
+            (going.barrier_items (tree_at code.now.trees node))
+            (names_behind_work code.now item (env_at code.now self.old)) }
     {
         let barrier = barrier_of(code, node);
         self.pass();
@@ -159,11 +148,9 @@ impl Control {
         requires ready { IsPassing code.now self.old }
         requires item { IsItem code.now item }
         requires node { node < length code.now.trees }
-        ensures task { task_at code.now self.new ≡
-            record (replaced code.now (going.mutex_items kind (tree_at code.now.trees node) id to) self.old)
-            { env = names_behind_asking item (env_at code.now self.old) } }
-        ensures after { IsAfterEvent self.old self.new }
-        ensures frames { AreFrames code.now self.new.frames }
+        ensures { IsPassed code.now self.old self.new
+            (going.mutex_items kind (tree_at code.now.trees node) id to)
+            (names_behind_asking item (env_at code.now self.old)) }
     {
         match item {
             Item::Initialise { entry, .. } => self.ask_with(code, entry, node, id, kind, to),

@@ -9,9 +9,9 @@ ghost use Rattle.c_model.specs.Statements as statements;
 ghost use Rattle.c_model.specs.Text.{printed_text};
 ghost use Rattle.c_model.specs.Value.{all_values};
 ghost use Rattle.c_steps.specs.Arguments.{values_in, without_values};
-ghost use Rattle.c_steps.specs.Held.{here_at, moment_at, outcome_at, scope_in};
-ghost use Rattle.c_steps.specs.Ready.{AreFrames, FitsProgram, IsSettled, IsStepping};
-ghost use Rattle.c_steps.specs.Scopes.{HasNumbers};
+ghost use Rattle.c_steps.specs.ControlView.{here_at, scope_in};
+ghost use Rattle.c_steps.specs.Views.{HasNumbers};
+ghost use Rattle.c_steps.specs.Steps.{Advances, CanStep};
 
 use crate::cells::Cells;
 use crate::code::Code;
@@ -31,14 +31,10 @@ impl Control {
         view: View,
         node: u32,
     ) -> Next
-        requires ready { IsStepping code.now self.old }
+        requires ready { CanStep code.now view self.old }
         requires node { node < length code.now.trees }
-        requires view { HasNumbers view }
-        ensures step { outcome_at code.now result (moment_at code.now self.new cells.new) ≡
-            statements.begin_print (here_at code.now view self.old cells.old) (tree_at code.now.trees node) }
-        ensures settled { IsSettled result self.old cells.old self.new cells.new }
-        ensures numbers { FitsProgram code.now result }
-        ensures frames { AreFrames code.now self.new.frames }
+        ensures { Advances code.now result self.old cells.old self.new cells.new
+            (statements.begin_print (here_at code.now view self.old cells.old) (tree_at code.now.trees node)) }
     {
         match self.scope(code, cells.items(), view).check_all(node) {
             Err(trap) => Next::Trap(trap),
@@ -61,8 +57,7 @@ impl Control {
         ensures text { let numbers = values_in (all_values (scope_in code.now view self.now cells.old)
             (parts (tree_at code.now.trees node))) in
             cells.new ≡ (if result then record cells.old {
-              text = cells.old.text ++
-                  printed_text (text_of (tree_at code.now.trees node)) numbers;
+              text = cells.old.text ++ printed_text (text_of (tree_at code.now.trees node)) numbers;
             } else cells.old) }
         ensures limit { let numbers = values_in (all_values (scope_in code.now view self.now cells.old)
             (parts (tree_at code.now.trees node))) in

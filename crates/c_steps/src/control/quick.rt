@@ -8,22 +8,24 @@ ghost use Rattle.c_model.specs.Calls as calls;
 ghost use Rattle.c_model.specs.Parts.{has_child};
 ghost use Rattle.c_model.specs.Statements as statements;
 ghost use Rattle.c_model.specs.Value as values;
-ghost use Rattle.c_steps.specs.Held.{here_at, scope_in};
+ghost use Rattle.c_steps.specs.ControlView.{here_at, scope_in};
 ghost use Rattle.c_steps.specs.Items.{with_file};
 ghost use Rattle.c_steps.specs.Nodes.{IsPart, part_at};
-ghost use Rattle.c_steps.specs.Ready.{IsStepping};
-ghost use Rattle.c_steps.specs.Scopes.{HasNumbers, scope_of};
+ghost use Rattle.c_steps.specs.Scopes.{scope_of};
+ghost use Rattle.c_steps.specs.Steps.{CanStep};
 ghost use Rattle.c_steps.specs.Trying.{IsAssignment, IsAttempt, IsChange};
-ghost use Rattle.c_steps.specs.Widths.{step_names};
+ghost use Rattle.c_steps.specs.Views.{HasNumbers};
 
 use crate::cells::Cells;
 use crate::code::Code;
 use crate::control::Control;
 use crate::control::statements::branch_taken;
 use crate::control::steps::setting_of;
+use crate::evaluate::number_in;
 use crate::item::Item;
+use crate::next::is_quiet;
 use crate::numbers::binary_result;
-use crate::scope::{Scope, number_in};
+use crate::scope::Scope;
 use c_model::{Target, View};
 use c_syntax::{BinaryOp, NodeKind, Setting};
 
@@ -44,11 +46,10 @@ impl Control {
         view: View,
         node: u32,
     ) -> bool
-        requires ready { IsStepping code.now self.old }
+        requires ready { CanStep code.now view self.old }
         requires node { node < length code.now.trees }
-        requires view { HasNumbers view }
-        ensures { IsAttempt code.now (statements.begin_step (here_at code.now view self.old cells.old)
-            (tree_at code.now.trees node)) result self.old cells.old self.new cells.new }
+        ensures { IsAttempt code.now result self.old cells.old self.new cells.new
+            (statements.begin_step (here_at code.now view self.old cells.old) (tree_at code.now.trees node)) }
     {
         match self.change(code, cells, view, code.child(Some(node), 0)) {
             Some(change) => {
@@ -71,11 +72,11 @@ impl Control {
         node: u32,
         names: usize,
     ) -> bool
-        requires ready { IsStepping code.now self.old }
+        requires ready { CanStep code.now view self.old }
         requires node { node < length code.now.trees }
-        requires view { HasNumbers view }
-        ensures { IsAttempt code.now (statements.third_for (here_at code.now view self.old cells.old)
-            (tree_at code.now.trees node) (with_file code.now names)) result self.old cells.old self.new cells.new }
+        ensures { IsAttempt code.now result self.old cells.old self.new cells.new
+            (statements.third_for (here_at code.now view self.old cells.old) (tree_at code.now.trees node)
+            (with_file code.now names)) }
     {
         match self.change(code, cells, view, code.child(Some(node), 2)) {
             Some(change) => {
@@ -92,11 +93,10 @@ impl Control {
     #[tactic(auto, using(crate::proofs::Stepping::items_if_cases))]
     #[inline(always)]
     pub(super) fn try_if(&mut self, code: &Code, cells: &Cells, view: View, node: u32) -> bool
-        requires ready { IsStepping code.now self.old }
+        requires ready { CanStep code.now view self.old }
         requires node { node < length code.now.trees }
-        requires view { HasNumbers view }
-        ensures { IsAttempt code.now (statements.begin_if (here_at code.now view self.old cells.now)
-            (tree_at code.now.trees node)) result self.old cells.now self.new cells.now }
+        ensures { IsAttempt code.now result self.old cells.now self.new cells.now
+            (statements.begin_if (here_at code.now view self.old cells.now) (tree_at code.now.trees node)) }
     {
         let condition = code.child(Some(node), 0);
         match self.quick_value(code, cells, view, condition) {
@@ -114,11 +114,10 @@ impl Control {
     #[tactic(auto, unfolding(crate::specs::Items::todo_at, crate::specs::Items::calls_at))]
     #[inline(always)]
     pub(super) fn try_while(&mut self, code: &Code, cells: &Cells, view: View, node: u32) -> bool
-        requires ready { IsStepping code.now self.old }
+        requires ready { CanStep code.now view self.old }
         requires node { node < length code.now.trees }
-        requires view { HasNumbers view }
-        ensures { IsAttempt code.now (statements.begin_while (here_at code.now view self.old cells.now)
-            (tree_at code.now.trees node)) result self.old cells.now self.new cells.now }
+        ensures { IsAttempt code.now result self.old cells.now self.new cells.now
+            (statements.begin_while (here_at code.now view self.old cells.now) (tree_at code.now.trees node)) }
     {
         let condition = code.child(Some(node), 0);
         match self.quick_value(code, cells, view, condition) {
@@ -148,11 +147,11 @@ impl Control {
         node: u32,
         names: usize,
     ) -> bool
-        requires ready { IsStepping code.now self.old }
+        requires ready { CanStep code.now view self.old }
         requires node { node < length code.now.trees }
-        requires view { HasNumbers view }
-        ensures { IsAttempt code.now (statements.test_for (here_at code.now view self.old cells.now)
-            (tree_at code.now.trees node) (with_file code.now names)) result self.old cells.now self.new cells.now }
+        ensures { IsAttempt code.now result self.old cells.now self.new cells.now
+            (statements.test_for (here_at code.now view self.old cells.now) (tree_at code.now.trees node)
+            (with_file code.now names)) }
     {
         match self.quick_test(code, cells, view, node) {
             None => false,
@@ -172,6 +171,7 @@ impl Control {
     }
 
     /// `return`, of nothing, of a call, or of an expression.
+    #[tactic(auto, using(crate::proofs::Trying::attempt_of))]
     #[inline(always)]
     pub(super) fn try_return(
         &mut self,
@@ -180,12 +180,10 @@ impl Control {
         view: View,
         node: u32,
     ) -> bool
-        requires ready { IsStepping code.now self.old }
+        requires ready { CanStep code.now view self.old }
         requires node { node < length code.now.trees }
-        requires view { HasNumbers view }
-        requires step_names { self.old.step_names ≡ step_names code.now }
-        ensures { IsAttempt code.now (calls.begin_return (here_at code.now view self.old cells.old)
-            (tree_at code.now.trees node)) result self.old cells.old self.new cells.new }
+        ensures { IsAttempt code.now result self.old cells.old self.new cells.new
+            (calls.begin_return (here_at code.now view self.old cells.old) (tree_at code.now.trees node)) }
     {
         let right = code.child(Some(node), 0);
         match code.kind(right) {
@@ -193,7 +191,7 @@ impl Control {
                 self.try_call(code, cells, view, right, Target::Return)
             }
             _ => match self.quick_value(code, cells, view, right) {
-                Some(number) => self.try_returns(code, cells, view, number),
+                Some(number) => is_quiet(self.returns(code, cells, view, number)),
                 None => false,
             },
         }
@@ -252,8 +250,7 @@ impl Control {
 /// What an assignment of this number changes, if it has no trap.
 #[inline(always)]
 fn assignment(scope: &Scope, which: Setting, place: Option<u32>, right: i32) -> Option<Change>
-    requires place { IsPart scope.now.tree.now.trees place }
-    requires view { HasNumbers scope.now.view }
+    requires { IsPart scope.now.tree.now.trees place }
     ensures { IfSome result (IsAssignment (scope_of scope.now) which (part_at scope.now.tree.now.trees place) right) }
 {
     let cell = scope.quick_place(place)?;

@@ -1,8 +1,8 @@
 //! What stands next stands first: frames that are over go, and so do the statements that a task goes past.
 
-ghost use Rattle.std.specs.Prelude.{◌≡◌, ◌&&◌, [], ◌==◌, not, IfNone, IfSome};
-ghost use Rattle.c_model.specs.Step.{is_passed_over, settled_task};
-ghost use Rattle.c_steps.specs.Held.{task_at};
+ghost use Rattle.std.specs.Prelude.{◌≡◌, [], IfNone, IfSome};
+ghost use Rattle.c_model.specs.Step.{skips_masked, settled_task};
+ghost use Rattle.c_steps.specs.ControlView.{task_at};
 ghost use Rattle.c_steps.specs.Items.{item_at, todo_at};
 ghost use Rattle.c_steps.specs.Ready.{AreFrames, IsFront, IsItem};
 
@@ -31,7 +31,7 @@ impl Control {
                 Look::Over => self.drop_top(),
                 Look::Instead(other) => self.replace_top(other),
                 Look::Found(item) => {
-                    if !is_passed_over(code, item, view) {
+                    if !skips_masked(code, item, view) {
                         return Some(item);
                     }
                     self.begin();
@@ -44,9 +44,9 @@ impl Control {
 
 /// Whether a task goes past an item without a step: a member of a team other than member 0 past a `masked` construct.
 #[inline(always)]
-pub(super) fn is_passed_over(code: &Code, item: Item, view: View) -> bool
+pub(super) fn skips_masked(code: &Code, item: Item, view: View) -> bool
     requires { IsItem code.now item }
-    ensures { result ≡ is_passed_over (item_at code.now item) view }
+    ensures { result ≡ skips_masked (item_at code.now item) view }
 {
     match item {
         Item::Start(part) => match code.kind(part) {

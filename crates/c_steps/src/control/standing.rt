@@ -4,16 +4,16 @@ ghost use Rattle.std.specs.Prelude.{◌≡◌, slice_get, IfSome};
 ghost use Rattle.std.specs.Option.{option_map};
 ghost use Rattle.c_syntax.specs.language.Tree.{kind_of};
 ghost use Rattle.c_model.specs.Step as steps;
-ghost use Rattle.c_steps.specs.Held.{task_at};
+ghost use Rattle.c_steps.specs.ControlView.{task_at};
 ghost use Rattle.c_steps.specs.Items.{item_at, todo_at};
-ghost use Rattle.c_steps.specs.Made.{IsMadeFor};
+ghost use Rattle.c_steps.specs.OfProgram.{IsMadeFor};
 ghost use Rattle.c_steps.specs.Nodes.{IsPart, part_at};
 ghost use Rattle.c_steps.specs.Ready.{AreFrames, IsFrame, IsItem};
-ghost use Rattle.c_steps.specs.Standing.{Fronts};
+ghost use Rattle.c_steps.specs.FrontFrame.{Fronts};
 
 use crate::code::Code;
 use crate::control::Control;
-use crate::control::settling::is_passed_over;
+use crate::control::settling::skips_masked;
 use crate::frame::{Frame, begun};
 use crate::item::Item;
 use crate::look::{Look, look_at};
@@ -77,7 +77,7 @@ fn front_of(code: &Code, view: View, frame: Frame) -> Front
             Look::Over => return Front::Over,
             Look::Instead(other) => shown = other,
             Look::Found(item) => {
-                if !is_passed_over(code, item, view) {
+                if !skips_masked(code, item, view) {
                     return Front::Found(item);
                 }
                 match begun(&shown) {

@@ -1,14 +1,12 @@
 //! What a statement begins with: one line for each form.
 
-ghost use Rattle.std.specs.Prelude.{◌≡◌, ◌<◌, length};
+ghost use Rattle.std.specs.Prelude.{◌<◌, length};
 ghost use Rattle.c_syntax.specs.language.Tree.{kind_of};
 ghost use Rattle.c_syntax.specs.language.Numbered.{tree_at};
 ghost use Rattle.c_model.specs.Step as steps;
-ghost use Rattle.c_steps.specs.Held.{here_at, moment_at, outcome_at};
+ghost use Rattle.c_steps.specs.ControlView.{here_at};
 ghost use Rattle.c_steps.specs.Nodes.{IsPart, part_at};
-ghost use Rattle.c_steps.specs.Ready.{AreFrames, FitsProgram, IsSettled, IsStepping};
-ghost use Rattle.c_steps.specs.Scopes.{HasNumbers};
-ghost use Rattle.c_steps.specs.Widths.{step_names};
+ghost use Rattle.c_steps.specs.Steps.{Advances, CanStep};
 
 use crate::cells::Cells;
 use crate::code::Code;
@@ -28,16 +26,11 @@ impl Control {
         view: View,
         part: Option<u32>,
     ) -> Next
-        requires ready { IsStepping code.now self.old }
+        requires ready { CanStep code.now view self.old }
         requires part { IsPart code.now.trees part }
-        requires view { HasNumbers view }
-        requires step_names { self.old.step_names ≡ step_names code.now }
-        ensures step { outcome_at code.now result (moment_at code.now self.new cells.new) ≡
-            steps.begin_statement (kind_of (part_at code.now.trees part)) (here_at code.now view self.old cells.old)
-            (part_at code.now.trees part) }
-        ensures settled { IsSettled result self.old cells.old self.new cells.new }
-        ensures numbers { FitsProgram code.now result }
-        ensures frames { AreFrames code.now self.new.frames }
+        ensures { Advances code.now result self.old cells.old self.new cells.new
+            (steps.begin_statement (kind_of (part_at code.now.trees part)) (here_at code.now view self.old cells.old)
+            (part_at code.now.trees part)) }
     {
         match part {
             Some(node) => self.begin_node(code, cells, view, node),
@@ -47,16 +40,11 @@ impl Control {
 
     #[inline(never)]
     fn begin_node(&mut self, code: &Code, cells: &mut Cells, view: View, node: u32) -> Next
-        requires ready { IsStepping code.now self.old }
+        requires ready { CanStep code.now view self.old }
         requires node { node < length code.now.trees }
-        requires view { HasNumbers view }
-        requires step_names { self.old.step_names ≡ step_names code.now }
-        ensures step { outcome_at code.now result (moment_at code.now self.new cells.new) ≡
-            steps.begin_statement (kind_of (tree_at code.now.trees node)) (here_at code.now view self.old cells.old)
-            (tree_at code.now.trees node) }
-        ensures settled { IsSettled result self.old cells.old self.new cells.new }
-        ensures numbers { FitsProgram code.now result }
-        ensures frames { AreFrames code.now self.new.frames }
+        ensures { Advances code.now result self.old cells.old self.new cells.new
+            (steps.begin_statement (kind_of (tree_at code.now.trees node)) (here_at code.now view self.old cells.old)
+            (tree_at code.now.trees node)) }
     {
         match code.kind(Some(node)) {
             NodeKind::Block => self.begin_block(code, cells, view, node),

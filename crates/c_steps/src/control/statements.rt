@@ -1,18 +1,16 @@
 //! Statements that are no steps, calls or constructs.
 
 ghost use Rattle.std.specs.Prelude.{◌≡◌, ◌<◌, length, if◌then◌else◌, Ok, pos, IfSome};
-ghost use Rattle.c_syntax.specs.language.Tree.{kind_of};
 ghost use Rattle.c_syntax.specs.language.Numbered.{tree_at};
 ghost use Rattle.c_model.specs.Parts.{has_child};
 ghost use Rattle.c_model.specs.Statements as statements;
 ghost use Rattle.c_model.specs.Value as values;
 ghost use Rattle.c_check.specs.Loops.{child_at};
-ghost use Rattle.c_steps.specs.Held.{here_at, moment_at, outcome_at, scope_in};
+ghost use Rattle.c_steps.specs.ControlView.{here_at, scope_in};
 ghost use Rattle.c_steps.specs.Items.{items_if, with_file};
-ghost use Rattle.c_steps.specs.Nodes.{IsPart, part_at};
-ghost use Rattle.c_steps.specs.Ready.{AreFrames, FitsProgram, IsItem, IsSettled, IsStepping};
-ghost use Rattle.c_steps.specs.Scopes.{HasNumbers};
-ghost use Rattle.c_steps.specs.Widths.{step_names};
+ghost use Rattle.c_steps.specs.Ready.{IsItem, IsStepping};
+ghost use Rattle.c_steps.specs.Views.{HasNumbers};
+ghost use Rattle.c_steps.specs.Steps.{Advances, CanStep};
 
 use crate::cells::Cells;
 use crate::code::Code;
@@ -27,11 +25,8 @@ impl Control {
     /// A statement that does nothing.
     pub(super) fn begin_empty(&mut self, code: &Code, cells: &Cells, view: View) -> Next
         requires { IsStepping code.now self.old }
-        ensures step { outcome_at code.now result (moment_at code.now self.new cells.now) ≡
-            statements.begin_empty (here_at code.now view self.old cells.now) }
-        ensures settled { IsSettled result self.old cells.now self.new cells.now }
-        ensures numbers { FitsProgram code.now result }
-        ensures frames { AreFrames code.now self.new.frames }
+        ensures { Advances code.now result self.old cells.now self.new cells.now
+            (statements.begin_empty (here_at code.now view self.old cells.now)) }
     {
         self.step();
         Next::Quiet
@@ -42,11 +37,8 @@ impl Control {
     pub(super) fn begin_block(&mut self, code: &Code, cells: &Cells, view: View, node: u32) -> Next
         requires ready { IsStepping code.now self.old }
         requires node { node < length code.now.trees }
-        ensures step { outcome_at code.now result (moment_at code.now self.new cells.now) ≡
-            statements.begin_block (here_at code.now view self.old cells.now) (tree_at code.now.trees node) }
-        ensures settled { IsSettled result self.old cells.now self.new cells.now }
-        ensures numbers { FitsProgram code.now result }
-        ensures frames { AreFrames code.now self.new.frames }
+        ensures { Advances code.now result self.old cells.now self.new cells.now
+            (statements.begin_block (here_at code.now view self.old cells.now) (tree_at code.now.trees node)) }
     {
         let names = self.own_names();
         self.step();
@@ -69,11 +61,8 @@ impl Control {
         names: usize,
     ) -> Next
         requires { IsStepping code.now self.old }
-        ensures step { outcome_at code.now result (moment_at code.now self.new cells.now) ≡
-            statements.leave_block (here_at code.now view self.old cells.now) (with_file code.now names) }
-        ensures settled { IsSettled result self.old cells.now self.new cells.now }
-        ensures numbers { FitsProgram code.now result }
-        ensures frames { AreFrames code.now self.new.frames }
+        ensures { Advances code.now result self.old cells.now self.new cells.now
+            (statements.leave_block (here_at code.now view self.old cells.now) (with_file code.now names)) }
     {
         self.step();
         self.cut(names);
@@ -83,14 +72,10 @@ impl Control {
     /// `if`: the branch that is taken stands next.
     #[tactic(auto, using(crate::proofs::Stepping::items_if_cases))]
     pub(super) fn begin_if(&mut self, code: &Code, cells: &Cells, view: View, node: u32) -> Next
-        requires ready { IsStepping code.now self.old }
+        requires ready { CanStep code.now view self.old }
         requires node { node < length code.now.trees }
-        requires view { HasNumbers view }
-        ensures step { outcome_at code.now result (moment_at code.now self.new cells.now) ≡
-            statements.begin_if (here_at code.now view self.old cells.now) (tree_at code.now.trees node) }
-        ensures settled { IsSettled result self.old cells.now self.new cells.now }
-        ensures numbers { FitsProgram code.now result }
-        ensures frames { AreFrames code.now self.new.frames }
+        ensures { Advances code.now result self.old cells.now self.new cells.now
+            (statements.begin_if (here_at code.now view self.old cells.now) (tree_at code.now.trees node)) }
     {
         let condition = code.child(Some(node), 0);
         match self.value(code, cells, view, condition) {
@@ -107,14 +92,10 @@ impl Control {
     /// `while`: the statement stands next, and then the loop again, or nothing.
     #[tactic(auto, unfolding(crate::specs::Items::todo_at, crate::specs::Items::calls_at))]
     pub(super) fn begin_while(&mut self, code: &Code, cells: &Cells, view: View, node: u32) -> Next
-        requires ready { IsStepping code.now self.old }
+        requires ready { CanStep code.now view self.old }
         requires node { node < length code.now.trees }
-        requires view { HasNumbers view }
-        ensures step { outcome_at code.now result (moment_at code.now self.new cells.now) ≡
-            statements.begin_while (here_at code.now view self.old cells.now) (tree_at code.now.trees node) }
-        ensures settled { IsSettled result self.old cells.now self.new cells.now }
-        ensures numbers { FitsProgram code.now result }
-        ensures frames { AreFrames code.now self.new.frames }
+        ensures { Advances code.now result self.old cells.now self.new cells.now
+            (statements.begin_while (here_at code.now view self.old cells.now) (tree_at code.now.trees node)) }
     {
         let condition = code.child(Some(node), 0);
         match self.value(code, cells, view, condition) {
@@ -143,15 +124,10 @@ impl Control {
         view: View,
         node: u32,
     ) -> Next
-        requires ready { IsStepping code.now self.old }
+        requires ready { CanStep code.now view self.old }
         requires node { node < length code.now.trees }
-        requires view { HasNumbers view }
-        requires step_names { self.old.step_names ≡ step_names code.now }
-        ensures step { outcome_at code.now result (moment_at code.now self.new cells.new) ≡
-            statements.begin_for (here_at code.now view self.old cells.old) (tree_at code.now.trees node) }
-        ensures settled { IsSettled result self.old cells.old self.new cells.new }
-        ensures numbers { FitsProgram code.now result }
-        ensures frames { AreFrames code.now self.new.frames }
+        ensures { Advances code.now result self.old cells.old self.new cells.new
+            (statements.begin_for (here_at code.now view self.old cells.old) (tree_at code.now.trees node)) }
     {
         let first = code.child(Some(node), 0);
         let test = Item::Test {
@@ -184,15 +160,11 @@ impl Control {
         node: u32,
         names: usize,
     ) -> Next
-        requires ready { IsStepping code.now self.old }
+        requires ready { CanStep code.now view self.old }
         requires node { node < length code.now.trees }
-        requires view { HasNumbers view }
-        ensures step { outcome_at code.now result (moment_at code.now self.new cells.now) ≡
-            statements.test_for (here_at code.now view self.old cells.now) (tree_at code.now.trees node)
-            (with_file code.now names) }
-        ensures settled { IsSettled result self.old cells.now self.new cells.now }
-        ensures numbers { FitsProgram code.now result }
-        ensures frames { AreFrames code.now self.new.frames }
+        ensures { Advances code.now result self.old cells.now self.new cells.now
+            (statements.test_for (here_at code.now view self.old cells.now) (tree_at code.now.trees node)
+            (with_file code.now names)) }
     {
         match self.test_value(code, cells, view, node) {
             Err(trap) => Next::Trap(trap),
@@ -235,15 +207,11 @@ impl Control {
         node: u32,
         names: usize,
     ) -> Next
-        requires ready { IsStepping code.now self.old }
+        requires ready { CanStep code.now view self.old }
         requires node { node < length code.now.trees }
-        requires view { HasNumbers view }
-        ensures step { outcome_at code.now result (moment_at code.now self.new cells.new) ≡
-            statements.third_for (here_at code.now view self.old cells.old) (tree_at code.now.trees node)
-            (with_file code.now names) }
-        ensures settled { IsSettled result self.old cells.old self.new cells.new }
-        ensures numbers { FitsProgram code.now result }
-        ensures frames { AreFrames code.now self.new.frames }
+        ensures { Advances code.now result self.old cells.old self.new cells.new
+            (statements.third_for (here_at code.now view self.old cells.old) (tree_at code.now.trees node)
+            (with_file code.now names)) }
     {
         let third = code.child(Some(node), 2);
         made(self.make_step(code, cells, view, third, Some(Item::Test { node, names })))

@@ -3,14 +3,14 @@
 ghost use Rattle.std.specs.Prelude.{◌≡◌, ◌<◌, length, Ok, IfSome};
 ghost use Rattle.c_syntax.specs.language.Tree.{kind_of};
 ghost use Rattle.c_syntax.specs.language.Numbered.{tree_at};
-ghost use Rattle.c_model.specs.Coming.{sets, with_result};
+ghost use Rattle.c_model.specs.StepOutcomes.{sets, with_result};
 ghost use Rattle.c_model.specs.Statements as statements;
 ghost use Rattle.c_model.specs.Value.{binary_value};
-ghost use Rattle.c_steps.specs.Held.{here_at, moment_at, next_of, outcome_at};
+ghost use Rattle.c_steps.specs.ControlView.{here_at, next_of};
 ghost use Rattle.c_steps.specs.Items.{items_if};
 ghost use Rattle.c_steps.specs.Nodes.{IsPart, part_at};
-ghost use Rattle.c_steps.specs.Ready.{AreFrames, FitsProgram, IsItem, IsSettled, IsStepping};
-ghost use Rattle.c_steps.specs.Scopes.{HasNumbers};
+ghost use Rattle.c_steps.specs.Ready.{IsItem, IsStepping};
+ghost use Rattle.c_steps.specs.Steps.{Advances, CanStep};
 
 use crate::cells::Cells;
 use crate::code::Code;
@@ -29,14 +29,10 @@ impl Control {
         view: View,
         node: u32,
     ) -> Result<(), u8>
-        requires ready { IsStepping code.now self.old }
+        requires ready { CanStep code.now view self.old }
         requires node { node < length code.now.trees }
-        requires view { HasNumbers view }
-        ensures step { outcome_at code.now (next_of result) (moment_at code.now self.new cells.new) ≡
-            statements.begin_step (here_at code.now view self.old cells.old) (tree_at code.now.trees node) }
-        ensures settled { IsSettled (next_of result) self.old cells.old self.new cells.new }
-        ensures numbers { FitsProgram code.now (next_of result) }
-        ensures frames { AreFrames code.now self.new.frames }
+        ensures { Advances code.now (next_of result) self.old cells.old self.new cells.new
+            (statements.begin_step (here_at code.now view self.old cells.old) (tree_at code.now.trees node)) }
     {
         let step = code.child(Some(node), 0);
         self.make_step(code, cells, view, step, None)
@@ -52,16 +48,12 @@ impl Control {
         part: Option<u32>,
         then: Option<Item>,
     ) -> Result<(), u8>
-        requires ready { IsStepping code.now self.old }
+        requires ready { CanStep code.now view self.old }
         requires part { IsPart code.now.trees part }
         requires then { IfSome then (IsItem code.now) }
-        requires view { HasNumbers view }
-        ensures step { outcome_at code.now (next_of result) (moment_at code.now self.new cells.new) ≡
-            statements.makes_step (kind_of (part_at code.now.trees part)) (here_at code.now view self.old cells.old)
-            (part_at code.now.trees part) (items_if code.now then) }
-        ensures settled { IsSettled (next_of result) self.old cells.old self.new cells.new }
-        ensures numbers { FitsProgram code.now (next_of result) }
-        ensures frames { AreFrames code.now self.new.frames }
+        ensures { Advances code.now (next_of result) self.old cells.old self.new cells.new
+            (statements.makes_step (kind_of (part_at code.now.trees part)) (here_at code.now view self.old cells.old)
+            (part_at code.now.trees part) (items_if code.now then)) }
     {
         match code.kind(part) {
             NodeKind::Assign(which) => {
@@ -69,15 +61,8 @@ impl Control {
                 self.assign(code, cells, view, which, code.child(part, 0), right, then)
             }
             NodeKind::Bump(which, _) => {
-                self.assign(
-                    code,
-                    cells,
-                    view,
-                    setting_of(which),
-                    code.child(part, 0),
-                    Ok(1),
-                    then,
-                )
+                let (setting, place) = (setting_of(which), code.child(part, 0));
+                self.assign(code, cells, view, setting, place, Ok(1), then)
             }
             _ => {
                 self.step();
@@ -98,16 +83,12 @@ impl Control {
         right: Result<i32, u8>,
         then: Option<Item>,
     ) -> Result<(), u8>
-        requires ready { IsStepping code.now self.old }
+        requires ready { CanStep code.now view self.old }
         requires place { IsPart code.now.trees place }
         requires then { IfSome then (IsItem code.now) }
-        requires view { HasNumbers view }
-        ensures step { outcome_at code.now (next_of result) (moment_at code.now self.new cells.new) ≡
-            statements.assigns (here_at code.now view self.old cells.old) which (part_at code.now.trees place) right
-            (items_if code.now then) }
-        ensures settled { IsSettled (next_of result) self.old cells.old self.new cells.new }
-        ensures numbers { FitsProgram code.now (next_of result) }
-        ensures frames { AreFrames code.now self.new.frames }
+        ensures { Advances code.now (next_of result) self.old cells.old self.new cells.new
+            (statements.assigns (here_at code.now view self.old cells.old) which (part_at code.now.trees place) right
+            (items_if code.now then)) }
     {
         match self.place_cell(code, cells, view, place) {
             Err(trap) => Err(trap),
@@ -131,12 +112,9 @@ impl Control {
     ) -> Result<(), u8>
         requires ready { IsStepping code.now self.old }
         requires then { IfSome then (IsItem code.now) }
-        ensures step { let here = here_at code.now view self.old cells.old in
-            outcome_at code.now (next_of result) (moment_at code.now self.new cells.new) ≡ with_result number (λ number.
-            sets here cell number (items_if code.now then)) }
-        ensures settled { IsSettled (next_of result) self.old cells.old self.new cells.new }
-        ensures numbers { FitsProgram code.now (next_of result) }
-        ensures frames { AreFrames code.now self.new.frames }
+        ensures { let here = here_at code.now view self.old cells.old in
+            Advances code.now (next_of result) self.old cells.old self.new cells.new
+            (with_result number (λ number. sets here cell number (items_if code.now then))) }
     {
         match number {
             Err(trap) => Err(trap),

@@ -1,22 +1,21 @@
 //! A silent step of C's own statements, made without a look at what else may stand next.
 
-ghost use Rattle.std.specs.Prelude.{◌≡◌, ◌<◌, ◌≤◌, length, slice_get, slice_set, true, IfSome, Some};
+ghost use Rattle.std.specs.Prelude.{◌≡◌, ◌<◌, ◌≤◌, length, slice_get, slice_set, IfSome, Some};
 ghost use Rattle.c_syntax.specs.language.Tree.{kind_of};
 ghost use Rattle.c_syntax.specs.language.Numbered.{tree_at};
 ghost use Rattle.c_model.specs.Calls as calls;
 ghost use Rattle.c_model.specs.Statements as statements;
 ghost use Rattle.c_model.specs.Step.{begin_statement, step_of};
-ghost use Rattle.c_model.specs.Task.{is_declarator};
-ghost use Rattle.c_steps.specs.Held.{here_at, task_at};
-ghost use Rattle.c_steps.specs.Items.{item_at, with_file};
-ghost use Rattle.c_steps.specs.Made.{IsMadeFor};
+ghost use Rattle.c_steps.specs.ControlView.{here_at, task_at};
+ghost use Rattle.c_steps.specs.Items.{item_at};
+ghost use Rattle.c_steps.specs.OfProgram.{IsMadeFor};
 ghost use Rattle.c_steps.specs.Ready.{AreFrames, IsFront, IsItem, IsStepping};
-ghost use Rattle.c_steps.specs.Scopes.{HasNumbers};
+ghost use Rattle.c_steps.specs.Views.{HasNumbers};
 ghost use Rattle.c_steps.specs.Rooming.{open_calls};
+ghost use Rattle.c_steps.specs.Steps.{CanStep};
 ghost use Rattle.c_steps.specs.Trying.{HasPartOnTop, HaveStepsMade, IsAttempt, IsTried, item_of, next_on_top};
 ghost use Rattle.c_steps.specs.declared.frame.Frame.TheVariants.{One, Parts};
 ghost use Rattle.c_steps.specs.declared.item.Item.TheVariants.{Leave};
-ghost use Rattle.c_steps.specs.Widths.{step_names};
 
 use crate::cells::Cells;
 use crate::code::Code;
@@ -141,39 +140,37 @@ impl Control {
     }
 
     /// The step of what stands next.
+    #[tactic(auto, using(crate::proofs::Trying::attempt_of))]
     #[inline(always)]
     fn try_plain(&mut self, code: &Code, cells: &mut Cells, view: View, plain: Plain) -> bool
-        requires ready { IsStepping code.now self.old }
+        requires ready { CanStep code.now view self.old }
         requires item { IsItem code.now (item_of plain) }
-        requires view { HasNumbers view }
-        requires step_names { self.old.step_names ≡ step_names code.now }
-        ensures { IsAttempt code.now (step_of (item_at code.now (item_of plain))
-            (here_at code.now view self.old cells.old)) result self.old cells.old self.new cells.new }
+        ensures { IsAttempt code.now result self.old cells.old self.new cells.new
+            (step_of (item_at code.now (item_of plain)) (here_at code.now view self.old cells.old)) }
     {
         match plain {
             Plain::Start(node) => self.try_statement(code, cells, view, node),
-            Plain::Declare(node) => self.try_declare(code, cells, view, node),
-            Plain::Leave(names) => self.try_leave(code, cells, view, names),
+            Plain::Declare(node) => is_quiet(self.declare(code, cells, view, node)),
+            Plain::Leave(names) => is_quiet(self.leave_block(code, cells, view, names)),
             Plain::Test { node, names } => self.try_test(code, cells, view, node, names),
             Plain::Third { node, names } => self.try_third(code, cells, view, node, names),
-            Plain::Return(number) => self.try_returns(code, cells, view, number),
-            Plain::FallOff => self.try_returns(code, cells, view, 0),
+            Plain::Return(number) => is_quiet(self.returns(code, cells, view, number)),
+            Plain::FallOff => is_quiet(self.returns(code, cells, view, 0)),
         }
     }
 
     /// The step of a statement: one line for each form of C's own.
+    #[tactic(auto, using(crate::proofs::Trying::attempt_of))]
     #[inline(always)]
     fn try_statement(&mut self, code: &Code, cells: &mut Cells, view: View, node: u32) -> bool
-        requires ready { IsStepping code.now self.old }
+        requires ready { CanStep code.now view self.old }
         requires node { node < length code.now.trees }
-        requires view { HasNumbers view }
-        requires step_names { self.old.step_names ≡ step_names code.now }
-        ensures { IsAttempt code.now (begin_statement (kind_of (tree_at code.now.trees node))
-            (here_at code.now view self.old cells.old) (tree_at code.now.trees node)) result self.old cells.old self.new
-            cells.new }
+        ensures { IsAttempt code.now result self.old cells.old self.new cells.new
+            (begin_statement (kind_of (tree_at code.now.trees node)) (here_at code.now view self.old cells.old)
+            (tree_at code.now.trees node)) }
     {
         match code.kind(Some(node)) {
-            NodeKind::Block => self.try_block(code, cells, view, node),
+            NodeKind::Block => is_quiet(self.begin_block(code, cells, view, node)),
             NodeKind::If => self.try_if(code, cells, view, node),
             NodeKind::While => self.try_while(code, cells, view, node),
             NodeKind::For => self.try_for(code, cells, view, node),
@@ -186,29 +183,14 @@ impl Control {
         }
     }
 
-    /// A block is entered.
-    #[tactic(auto, using(crate::proofs::Trying::attempt_of))]
-    #[inline(always)]
-    fn try_block(&mut self, code: &Code, cells: &mut Cells, view: View, node: u32) -> bool
-        requires ready { IsStepping code.now self.old }
-        requires node { node < length code.now.trees }
-        ensures { IsAttempt code.now (statements.begin_block (here_at code.now view self.old cells.old)
-            (tree_at code.now.trees node)) result self.old cells.old self.new cells.new }
-    {
-        let next = self.begin_block(code, cells, view, node);
-        is_quiet(next)
-    }
-
     /// A plain `for` begins.
     #[tactic(auto, using(crate::proofs::Trying::attempt_of))]
     #[inline(never)]
     fn try_for(&mut self, code: &Code, cells: &mut Cells, view: View, node: u32) -> bool
-        requires ready { IsStepping code.now self.old }
+        requires ready { CanStep code.now view self.old }
         requires node { node < length code.now.trees }
-        requires view { HasNumbers view }
-        requires step_names { self.old.step_names ≡ step_names code.now }
-        ensures { IsAttempt code.now (statements.begin_for (here_at code.now view self.old cells.old)
-            (tree_at code.now.trees node)) result self.old cells.old self.new cells.new }
+        ensures { IsAttempt code.now result self.old cells.old self.new cells.new
+            (statements.begin_for (here_at code.now view self.old cells.old) (tree_at code.now.trees node)) }
     {
         let next = self.begin_for(code, cells, view, node);
         is_quiet(next)
@@ -217,12 +199,10 @@ impl Control {
     /// An assignment of a call: first the cell, and then the call.
     #[inline(always)]
     fn try_set_call(&mut self, code: &Code, cells: &mut Cells, view: View, node: u32) -> bool
-        requires ready { IsStepping code.now self.old }
+        requires ready { CanStep code.now view self.old }
         requires node { node < length code.now.trees }
-        requires view { HasNumbers view }
-        requires step_names { self.old.step_names ≡ step_names code.now }
-        ensures { IsAttempt code.now (calls.begin_set_call (here_at code.now view self.old cells.old)
-            (tree_at code.now.trees node)) result self.old cells.old self.new cells.new }
+        ensures { IsAttempt code.now result self.old cells.old self.new cells.new
+            (calls.begin_set_call (here_at code.now view self.old cells.old) (tree_at code.now.trees node)) }
     {
         match self.place_cell(code, cells, view, code.child(Some(node), 0)) {
             Ok(cell) => {
@@ -236,12 +216,10 @@ impl Control {
     /// A call that is a statement.
     #[inline(always)]
     fn try_called(&mut self, code: &Code, cells: &mut Cells, view: View, node: u32) -> bool
-        requires ready { IsStepping code.now self.old }
+        requires ready { CanStep code.now view self.old }
         requires node { node < length code.now.trees }
-        requires view { HasNumbers view }
-        requires step_names { self.old.step_names ≡ step_names code.now }
-        ensures { IsAttempt code.now (calls.begin_called (here_at code.now view self.old cells.old)
-            (tree_at code.now.trees node)) result self.old cells.old self.new cells.new }
+        ensures { IsAttempt code.now result self.old cells.old self.new cells.new
+            (calls.begin_called (here_at code.now view self.old cells.old) (tree_at code.now.trees node)) }
     {
         let call = code.child(Some(node), 0);
         self.try_call(code, cells, view, call, Target::Nowhere)
@@ -252,57 +230,10 @@ impl Control {
     #[inline(never)]
     fn try_empty(&mut self, code: &Code, cells: &mut Cells, view: View) -> bool
         requires ready { IsStepping code.now self.old }
-        ensures { IsAttempt code.now (statements.begin_empty (here_at code.now view self.old cells.old)) result self.old
-            cells.old self.new cells.new }
+        ensures { IsAttempt code.now result self.old cells.old self.new cells.new
+            (statements.begin_empty (here_at code.now view self.old cells.old)) }
     {
         let next = self.begin_empty(code, cells, view);
-        is_quiet(next)
-    }
-
-    /// A declarator of a block.
-    #[tactic(auto, using(crate::proofs::Trying::attempt_of))]
-    #[inline(always)]
-    fn try_declare(&mut self, code: &Code, cells: &mut Cells, view: View, node: u32) -> bool
-        requires ready { IsStepping code.now self.old }
-        requires node { node < length code.now.trees }
-        requires declarator { is_declarator (kind_of (tree_at code.now.trees node)) ≡ true }
-        requires view { HasNumbers view }
-        requires step_names { self.old.step_names ≡ step_names code.now }
-        ensures { IsAttempt code.now (statements.declares (kind_of (tree_at code.now.trees node))
-            (here_at code.now view self.old cells.old) (tree_at code.now.trees node)) result self.old cells.old self.new
-            cells.new }
-    {
-        let next = self.declare(code, cells, view, node);
-        is_quiet(next)
-    }
-
-    /// A block ends, and so many names stay in scope.
-    #[tactic(auto, using(crate::proofs::Trying::attempt_of))]
-    #[inline(always)]
-    fn try_leave(&mut self, code: &Code, cells: &mut Cells, view: View, names: usize) -> bool
-        requires ready { IsStepping code.now self.old }
-        ensures { IsAttempt code.now (statements.leave_block (here_at code.now view self.old cells.old)
-            (with_file code.now names)) result self.old cells.old self.new cells.new }
-    {
-        let next = self.leave_block(code, cells, view, names);
-        is_quiet(next)
-    }
-
-    /// A function returns this number.
-    #[tactic(auto, using(crate::proofs::Trying::attempt_of))]
-    #[inline(always)]
-    pub(super) fn try_returns(
-        &mut self,
-        code: &Code,
-        cells: &mut Cells,
-        view: View,
-        number: i32,
-    ) -> bool
-        requires ready { IsStepping code.now self.old }
-        ensures { IsAttempt code.now (calls.returns (here_at code.now view self.old cells.old) number) result self.old
-            cells.old self.new cells.new }
-    {
-        let next = self.returns(code, cells, view, number);
         is_quiet(next)
     }
 }

@@ -4,11 +4,11 @@ ghost use Rattle.std.specs.Prelude.{◌≡◌, IfSome};
 ghost use Rattle.c_syntax.specs.language.Numbered.{TreeView};
 ghost use Rattle.c_model.specs.declared.view.View.{View as SeenView};
 ghost use Rattle.c_model.specs.Upcoming.{upcoming_by_form, upcoming_item, upcoming_of};
-ghost use Rattle.c_steps.specs.Held.{task_at};
+ghost use Rattle.c_steps.specs.ControlView.{task_at};
 ghost use Rattle.c_steps.specs.Items.{item_at};
-ghost use Rattle.c_steps.specs.Made.{IsMadeFor};
+ghost use Rattle.c_steps.specs.OfProgram.{IsMadeFor};
 ghost use Rattle.c_steps.specs.Ready.{IsItem};
-ghost use Rattle.c_steps.specs.Standing.{ItemTells};
+ghost use Rattle.c_steps.specs.FrontFrame.{ItemTells};
 
 use crate::code::Code;
 use crate::control::Control;

@@ -22,6 +22,15 @@ macro_rules! lock_call {
     };
 }
 
+/// The rule of a sort: each row has a sort and the function that has its rule, in the module that it stands under.
+macro_rules! rule_by_row {
+    ($what:expr, $next:expr, $($module:ident: $($sort:ident $(($part:ident))? => $rule:ident),+;)+) => {
+        match $what {
+            $($(Sort::$sort $(($part))? => $module::$rule($($part,)? $next),)+)+
+        }
+    };
+}
+
 mod assignment;
 mod clause;
 mod construct;
@@ -39,71 +48,39 @@ pub type Rule = Option<&'static [Step]>;
 pub fn choice(what: Sort, next: Term) -> Rule
     ensures { option_copied result ≡ choice what next }
 {
-    match what {
-        Sort::Program => file::program(next),
-        Sort::Globals => file::globals(next),
-        Sort::AfterIntName => file::after_int_name(next),
-        Sort::Body => file::body(next),
-        Sort::Params => file::parameters(next),
-        Sort::MoreParams => file::more_params(next),
-        Sort::GlobalRest => file::global_rest(next),
-        Sort::Initial => file::initial(next),
-        Sort::MoreGlobals => file::more_globals(next),
-        Sort::Locks => file::locks(next),
-        Sort::MoreLocks => file::more_locks(next),
-        Sort::Block => statement::block(next),
-        Sort::Items => statement::items(next),
-        Sort::Locals => statement::locals(next),
-        Sort::LocalRest => statement::local_rest(next),
-        Sort::MoreLocals => statement::more_locals(next),
-        Sort::Right => assignment::right(next),
-        Sort::AfterRightName => assignment::after_right_name(next),
-        Sort::Statement => statement::statement(next),
-        Sort::PlainStatement => statement::plain_statement(next),
-        Sort::AfterStatementName => assignment::after_statement_name(next),
-        Sort::AfterPlace => assignment::after_place(next),
-        Sort::AssignRight => assignment::assign_right(next),
-        Sort::AfterAssignName => assignment::after_assign_name(next),
-        Sort::Place => expression::place(next),
-        Sort::Args => expression::args(next),
-        Sort::MoreArgs => expression::more_args(next),
-        Sort::ElsePart => statement::else_part(next),
-        Sort::InitPart => statement::init_part(next),
-        Sort::CondPart => statement::cond_part(next),
-        Sort::StepPart => statement::step_part(next),
-        Sort::StepRest => assignment::step_rest(next),
-        Sort::ReturnPart => statement::return_part(next),
-        Sort::Expr => expression::expr(next),
-        Sort::OrTail => expression::or_tail(next),
-        Sort::AndChain => expression::and_chain(next),
-        Sort::AndTail => expression::and_tail(next),
-        Sort::EqualChain => expression::equal_chain(next),
-        Sort::EqualTail => expression::equal_tail(next),
-        Sort::RelChain => expression::rel_chain(next),
-        Sort::RelTail => expression::rel_tail(next),
-        Sort::SumChain => expression::sum_chain(next),
-        Sort::SumTail => expression::sum_tail(next),
-        Sort::ProdChain => expression::prod_chain(next),
-        Sort::ProdTail => expression::prod_tail(next),
-        Sort::Unary => expression::unary(next),
-        Sort::IndexPart => expression::index_part(next),
-        Sort::AfterGetter(which) => expression::after_getter(which, next),
-        Sort::ItemDirective => construct::item_directive(next),
-        Sort::Construct => construct::construct(next),
-        Sort::Behind(directive) => construct::behind_directive(directive, next),
-        Sort::AfterParallel => construct::after_parallel(next),
-        Sort::CriticalName => construct::critical_name(next),
-        Sort::SectionsBody => construct::sections_body(next),
-        Sort::FirstSection => construct::first_section(next),
-        Sort::SectionOrConstruct => construct::section_or_construct(next),
-        Sort::MoreSections => construct::more_sections(next),
-        Sort::Clauses(directive) => clause::clauses(directive, next),
-        Sort::DefaultWord => clause::default_word(next),
-        Sort::Operator => clause::operator(next),
-        Sort::Kind => clause::kind_word(next),
-        Sort::ChunkPart => clause::chunk_part(next),
-        Sort::Names => clause::names(next),
-        Sort::MoreNames => clause::more_names(next),
-        Sort::Clause(directive) => clause::clause(directive, next),
-    }
+    rule_by_row!(
+        what, next,
+        file:
+            Program => program, Globals => globals, AfterIntName => after_int_name, Body => body,
+            Params => parameters, MoreParams => more_params, GlobalRest => global_rest,
+            Initial => initial, MoreGlobals => more_globals, Locks => locks,
+            MoreLocks => more_locks;
+        statement:
+            Block => block, Items => items, Locals => locals, LocalRest => local_rest,
+            MoreLocals => more_locals, Statement => statement, PlainStatement => plain_statement,
+            ElsePart => else_part, InitPart => init_part, CondPart => cond_part,
+            StepPart => step_part, ReturnPart => return_part;
+        assignment:
+            Right => right, AfterRightName => after_right_name,
+            AfterStatementName => after_statement_name, AfterPlace => after_place,
+            AssignRight => assign_right, AfterAssignName => after_assign_name,
+            StepRest => step_rest;
+        expression:
+            Place => place, Args => args, MoreArgs => more_args, Expr => expr, OrTail => or_tail,
+            AndChain => and_chain, AndTail => and_tail, EqualChain => equal_chain,
+            EqualTail => equal_tail, RelChain => rel_chain, RelTail => rel_tail,
+            SumChain => sum_chain, SumTail => sum_tail, ProdChain => prod_chain,
+            ProdTail => prod_tail, Unary => unary, IndexPart => index_part,
+            AfterGetter(which) => after_getter;
+        construct:
+            ItemDirective => item_directive, Construct => construct,
+            Behind(directive) => behind_directive, AfterParallel => after_parallel,
+            CriticalName => critical_name, SectionsBody => sections_body,
+            FirstSection => first_section, SectionOrConstruct => section_or_construct,
+            MoreSections => more_sections;
+        clause:
+            Clauses(directive) => clauses, DefaultWord => default_word, Operator => operator,
+            Kind => kind_word, ChunkPart => chunk_part, Names => names, MoreNames => more_names,
+            Clause(directive) => clause;
+    )
 }

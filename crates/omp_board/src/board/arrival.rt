@@ -24,24 +24,24 @@ impl Board {
         };
         match found.stage() {
             ThreadStage::Unmade | ThreadStage::Ended => return Arrival::Waits,
-            ThreadStage::Made => return Arrival::Meets(Event::ThreadBegin),
+            ThreadStage::Made => return Arrival::RuntimeEvent(Event::ThreadBegin),
             ThreadStage::Begun => {}
         }
         if found.invited() != 0 {
-            return Arrival::Meets(Event::MemberBegin {
+            return Arrival::RuntimeEvent(Event::MemberBegin {
                 region: found.invited(),
                 task: self.next_task(),
             });
         }
         let current = found.current();
         if found.undeferred() != 0 {
-            return Arrival::Meets(Event::TaskBegin {
+            return Arrival::RuntimeEvent(Event::TaskBegin {
                 prior: current,
                 task: found.undeferred(),
             });
         }
         if let Some(share) = found.taken() {
-            return Arrival::Meets(Event::Dispatch(share));
+            return Arrival::RuntimeEvent(Event::Dispatch(share));
         }
         if current == 0 {
             self.arrival_without_task(thread)
@@ -70,7 +70,7 @@ impl Board {
             return arrival_around(self.condition(INITIAL_TASK));
         }
         if self.main_returned() && self.has_no_tasks(IMPLICIT_REGION) {
-            Arrival::Meets(Event::ThreadEnd)
+            Arrival::RuntimeEvent(Event::ThreadEnd)
         } else {
             Arrival::Waits
         }
@@ -84,7 +84,7 @@ impl Board {
     {
         match upcoming {
             Upcoming::Step => Arrival::Steps,
-            Upcoming::Event => Arrival::Comes,
+            Upcoming::Event => Arrival::CodeEvent,
             Upcoming::End => self.arrival_at_end(thread, task, self.kind(task)),
             Upcoming::RegionEnd => comes_if(self.all_left(self.tasks.forked(task))),
             Upcoming::Sync { kind, stage } => self.arrival_at_sync(thread, kind, stage),
@@ -93,7 +93,7 @@ impl Board {
                 if self.is_owned(wait_id) {
                     Arrival::Steps
                 } else {
-                    Arrival::Comes
+                    Arrival::CodeEvent
                 }
             }
         }
@@ -107,12 +107,13 @@ impl Board {
         match stage {
             SyncStage::WaitEnd => {
                 if self.may_end(thread, kind) {
-                    Arrival::Comes
+                    Arrival::CodeEvent
                 } else {
                     self.starts_if(thread)
                 }
             }
-            SyncStage::RegionBegin | SyncStage::WaitBegin | SyncStage::RegionEnd => Arrival::Comes,
+            SyncStage::RegionBegin | SyncStage::WaitBegin | SyncStage::RegionEnd =>
+                Arrival::CodeEvent,
         }
     }
 
@@ -122,11 +123,13 @@ impl Board {
     {
         match kind {
             TaskKind::Initial => self.arrival_behind_main(thread),
-            TaskKind::Implicit => Arrival::Meets(Event::MemberEnd {
+            TaskKind::Implicit => Arrival::RuntimeEvent(Event::MemberEnd {
                 region: self.region_of(task),
                 task,
             }),
-            TaskKind::Explicit | TaskKind::Undeferred => Arrival::Meets(Event::TaskEnd { task }),
+            TaskKind::Explicit | TaskKind::Undeferred => Arrival::RuntimeEvent(Event::TaskEnd {
+                task,
+            }),
         }
     }
 
@@ -138,7 +141,7 @@ impl Board {
             return self.starts_if(thread);
         }
         if self.workers_over() {
-            Arrival::Meets(Event::InitialTaskEnd)
+            Arrival::RuntimeEvent(Event::InitialTaskEnd)
         } else {
             Arrival::Waits
         }
@@ -150,7 +153,7 @@ impl Board {
         ensures { result ≡ gates.starts_if self.now.world thread (gates.next_task self.now.world thread) }
     {
         match self.next_allowed(thread) {
-            Some(task) => Arrival::Meets(Event::TaskBegin {
+            Some(task) => Arrival::RuntimeEvent(Event::TaskBegin {
                 prior: self.current(thread),
                 task,
             }),
@@ -259,7 +262,11 @@ impl Board {
 fn comes_if(may: bool) -> Arrival
     ensures { result ≡ gates.comes_if may }
 {
-    if may { Arrival::Comes } else { Arrival::Waits }
+    if may {
+        Arrival::CodeEvent
+    } else {
+        Arrival::Waits
+    }
 }
 
 /// What thread 0 comes to without a task, where the initial task has come so far.
@@ -267,9 +274,9 @@ fn arrival_around(condition: Condition) -> Arrival
     ensures { result ≡ gates.arrival_around condition }
 {
     match condition {
-        Condition::Made => Arrival::Meets(Event::InitialTaskBegin),
+        Condition::Made => Arrival::RuntimeEvent(Event::InitialTaskBegin),
         Condition::Ready | Condition::Started => Arrival::Waits,
-        Condition::Finished => Arrival::Meets(Event::ThreadEnd),
+        Condition::Finished => Arrival::RuntimeEvent(Event::ThreadEnd),
     }
 }
 

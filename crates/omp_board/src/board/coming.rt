@@ -1,40 +1,41 @@
-//! Events of a task's code: what happens at their Go.
+//! Events, of a task's code and beside all code: what happens at their Go.
 
 ghost use Rattle.std.specs.Prelude.{◌≡◌, ◌≤◌, ◌-◌, true};
 ghost use Rattle.c_syntax.specs.language.Numbered.{tree_at};
 ghost use Rattle.c_model.specs.declared.question.Answer.TheVariants as answer;
 ghost use Rattle.c_model.specs.declared.question.Ask.TheVariants as ask;
 ghost use Rattle.c_model.specs.Answers.{AnswersFirst};
-ghost use Rattle.c_model.specs.Going.{settled_after_answer, settled_after_event};
+ghost use Rattle.c_model.specs.AfterEvents.{settled_after_answer, settled_after_event};
 ghost use Rattle.c_model.specs.Occurring.{IsAskOfNext};
 ghost use Rattle.c_model.specs.Step.{silent};
-ghost use Rattle.c_steps.specs.Held.{outcome_at};
+ghost use Rattle.c_steps.specs.ControlView.{outcome_at};
 ghost use Rattle.c_steps.specs.Passing.{IsEventOfNext};
-ghost use Rattle.omp_model.specs.declared.event.Arrival.TheVariants.{Comes};
-ghost use Rattle.omp_model.specs.Changes.{gone_past, gone_to, with_code};
+ghost use Rattle.omp_model.specs.declared.event.Arrival.TheVariants.{CodeEvent, RuntimeEvent};
+ghost use Rattle.omp_model.specs.declared.event.Event.TheVariants as event;
+ghost use Rattle.omp_model.specs.Changes.{with_masked_skipped, gone_to, with_code};
 ghost use Rattle.omp_model.specs.Gates.{arrival};
-ghost use Rattle.omp_model.specs.Going as going;
-ghost use Rattle.omp_model.specs.Made.{IsMadeWorld};
+ghost use Rattle.omp_model.specs.EventEffects as going;
+ghost use Rattle.omp_model.specs.MadeWorld.{IsMadeWorld};
 ghost use Rattle.omp_model.specs.Members.{code_of, current, moment_of, view_of};
 ghost use Rattle.omp_board.specs.Answering.{IsSettled};
-ghost use Rattle.omp_board.specs.Board.{HasEvent, HasStep, IsGoing, IsGoingTo};
+ghost use Rattle.omp_board.specs.Board.{HasEvent, HasStep, IsGoing, IsGoingBeside, IsGoingTo};
 ghost use Rattle.omp_board.specs.Events.{HasComeTo, HasGo, HasPassing, work_event};
 ghost use Rattle.omp_board.specs.Tasks.{IsNamedIn, IsStill};
 
 use crate::board::Board;
 use crate::board::meeting::work_met;
-use c_model::{Answer, Ask, Point, Work, WorkKind};
+use c_model::{Answer, Ask, MutexKind, Point, SyncKind, SyncStage, Work, WorkKind};
 use c_steps::Next;
 use omp_model::{Endpoint, Event, Halt};
 
 impl Board {
     /// The Go of the event of its code that the thread has come to. Where it meets a trap or a limit, nothing has changed, but that the task has left
     /// out what it goes past.
-    pub fn come(&mut self, thread: u8) -> Result<Event, Halt>
-        requires comes { arrival self.old.world thread ≡ Comes }
+    pub fn begin_code_event(&mut self, thread: u8) -> Result<Event, Halt>
+        requires comes { arrival self.old.world thread ≡ CodeEvent }
         requires made { IsMadeWorld self.old.world }
         requires room { HasEvent self.old.room self.old.world thread }
-        ensures going { IsGoing self.old.program (gone_past self.old.world thread) thread result self.new.world }
+        ensures going { IsGoing self.old.program (with_masked_skipped self.old.world thread) thread result self.new.world }
         ensures program { self.new.program ≡ self.old.program }
     {
         match self.look(thread) {
@@ -49,13 +50,28 @@ impl Board {
         }
     }
 
+    /// The Go of the event beside all code that the thread has come to. Where it meets a limit, nothing has changed.
+    pub fn begin_runtime_event(&mut self, thread: u8, event: Event) -> Result<Event, Halt>
+        requires meets { arrival self.old.world thread ≡ RuntimeEvent event }
+        requires made { IsMadeWorld self.old.world }
+        requires room { HasEvent self.old.room self.old.world thread }
+        ensures going { IsGoingBeside self.old.world thread event result self.new.world }
+        ensures program { self.new.program ≡ self.old.program }
+    {
+        if let Some(limit) = self.limit_met(thread, event) {
+            return Err(limit);
+        }
+        self.occur(thread, event);
+        Ok(event)
+    }
+
     /// What stands next in the code of the thread's task, which leaves out what it goes past. It may be a silent step, and then that is made.
     #[inline(always)]
     fn look(&mut self, thread: u8) -> Next
         requires room { HasStep self.old.room self.old.world thread }
         ensures outcome { outcome_at self.old.program result (moment_of self.new.world thread) ≡
             silent self.old.program (view_of self.old.world thread) (moment_of self.old.world thread) }
-        ensures still { IsStill result → self.new ≡ record self.old { world = gone_past self.old.world thread } }
+        ensures still { IsStill result → self.new ≡ record self.old { world = with_masked_skipped self.old.world thread } }
         ensures named { IsNamedIn self.old.program result (code_of self.new.world thread).todo }
     {
         let view = self.view(thread);
@@ -148,57 +164,30 @@ impl Board {
                 codeptr,
                 kind,
                 count,
-            } => Event::Work {
-                endpoint: Endpoint::End,
-                kind,
-                count,
-                codeptr,
-            },
-            Point::MaskedBegin { codeptr } => Event::Masked {
-                endpoint: Endpoint::Begin,
-                codeptr,
-            },
-            Point::MaskedEnd { codeptr } => Event::Masked {
-                endpoint: Endpoint::End,
-                codeptr,
-            },
+            } => work_event(Endpoint::End, kind, count, codeptr),
+            Point::MaskedBegin { codeptr } => masked_event(Endpoint::Begin, codeptr),
+            Point::MaskedEnd { codeptr } => masked_event(Endpoint::End, codeptr),
             Point::Sync {
                 codeptr,
                 kind,
                 stage,
-            } => Event::Sync {
-                kind,
-                stage,
-                codeptr,
-            },
+            } => sync_event(kind, stage, codeptr),
             Point::MutexAcquire {
                 codeptr,
                 wait_id,
                 kind,
                 ..
-            } => Event::MutexAcquire {
-                kind,
-                wait_id,
-                codeptr,
-            },
+            } => acquire_event(kind, wait_id, codeptr),
             Point::MutexAcquired {
                 codeptr,
                 wait_id,
                 kind,
-            } => Event::MutexAcquired {
-                kind,
-                wait_id,
-                codeptr,
-            },
+            } => acquired_event(kind, wait_id, codeptr),
             Point::MutexReleased {
                 codeptr,
                 wait_id,
                 kind,
-            } => Event::MutexReleased {
-                kind,
-                wait_id,
-                codeptr,
-            },
+            } => released_event(kind, wait_id, codeptr),
             Point::LockInit { codeptr, wait_id } => Event::LockInit { wait_id, codeptr },
             Point::LockDestroy { codeptr, wait_id } => Event::LockDestroy { wait_id, codeptr },
         }
@@ -243,10 +232,68 @@ fn work_begin(codeptr: u64, work: Work, executes: bool) -> Event
         Work::Single if executes => (WorkKind::SingleExecutor, 1),
         Work::Single => (WorkKind::SingleOther, 1),
     };
+    work_event(Endpoint::Begin, kind, count, codeptr)
+}
+
+/// The event of an end of a worksharing construct's part.
+fn work_event(endpoint: Endpoint, kind: WorkKind, count: u64, codeptr: u64) -> Event
+    ensures { result ≡ event.Work endpoint kind count codeptr }
+{
     Event::Work {
-        endpoint: Endpoint::Begin,
+        endpoint,
         kind,
         count,
+        codeptr,
+    }
+}
+
+/// The event of an end of a `masked`.
+fn masked_event(endpoint: Endpoint, codeptr: u64) -> Event
+    ensures { result ≡ event.Masked endpoint codeptr }
+{
+    Event::Masked { endpoint, codeptr }
+}
+
+/// An event of a barrier or taskwait.
+fn sync_event(kind: SyncKind, stage: SyncStage, codeptr: u64) -> Event
+    ensures { result ≡ event.Sync kind stage codeptr }
+{
+    Event::Sync {
+        kind,
+        stage,
+        codeptr,
+    }
+}
+
+/// A lock or critical is asked for.
+fn acquire_event(kind: MutexKind, wait_id: u32, codeptr: u64) -> Event
+    ensures { result ≡ event.MutexAcquire kind wait_id codeptr }
+{
+    Event::MutexAcquire {
+        kind,
+        wait_id,
+        codeptr,
+    }
+}
+
+/// It comes to be owned.
+fn acquired_event(kind: MutexKind, wait_id: u32, codeptr: u64) -> Event
+    ensures { result ≡ event.MutexAcquired kind wait_id codeptr }
+{
+    Event::MutexAcquired {
+        kind,
+        wait_id,
+        codeptr,
+    }
+}
+
+/// It is given back.
+fn released_event(kind: MutexKind, wait_id: u32, codeptr: u64) -> Event
+    ensures { result ≡ event.MutexReleased kind wait_id codeptr }
+{
+    Event::MutexReleased {
+        kind,
+        wait_id,
         codeptr,
     }
 }

@@ -1,15 +1,22 @@
-//! What events of a task's code change beside the code, and the traps and limits that they meet.
+//! What events change beside a task's code, and the traps and limits that they meet.
 
-ghost use Rattle.std.specs.Prelude.{◌≡◌, ◌<◌, ◌≤◌, Some, None, int_lt, nat_abs, pos};
+ghost use Rattle.std.specs.Prelude.{◌≡◌, ◌<◌, ◌≤◌, IsOk, Some, None, int_lt, length, nat_abs, pos};
 ghost use Rattle.team_parts.specs.Meetings.{HasChunk};
 ghost use Rattle.sync_objects.specs.Answers as answers;
 ghost use Rattle.sync_objects.specs.Faults.{fault_number};
+ghost use Rattle.task_pool.specs.Tasks.{MayBeParent};
+ghost use Rattle.task_pool.specs.View.{answer_to_add};
+ghost use Rattle.omp_model.specs.declared.event.Arrival.TheVariants.{RuntimeEvent};
+ghost use Rattle.omp_model.specs.declared.event.Event.TheVariants as event;
 ghost use Rattle.omp_model.specs.declared.event.Halt.TheVariants as halt;
+ghost use Rattle.omp_model.specs.declared.limits.TheConstants.{STACK_LIMIT};
+ghost use Rattle.omp_model.specs.Gates.{arrival};
+ghost use Rattle.omp_model.specs.EventEffects.{effect_of, fault_of, stack_fault};
 ghost use Rattle.omp_model.specs.declared.limits.TheConstants as limits;
-ghost use Rattle.omp_model.specs.State.{task_at};
+ghost use Rattle.omp_model.specs.State.{region_at, task_at, thread_at};
 ghost use Rattle.omp_model.specs.Changes as changes;
-ghost use Rattle.omp_model.specs.Going as going;
-ghost use Rattle.omp_model.specs.Made.{IsMadeWorld};
+ghost use Rattle.omp_model.specs.EventEffects as going;
+ghost use Rattle.omp_model.specs.MadeWorld.{IsMadeWorld};
 ghost use Rattle.omp_model.specs.Members.{code_of, current, is_explicit_task, moment_of};
 ghost use Rattle.omp_board.specs.Board.{run_of};
 ghost use Rattle.omp_board.specs.Events.{HasGo, IsCreator, IsEffect, KeepsPassing, MayCreate};
@@ -18,7 +25,10 @@ use crate::board::Board;
 use crate::board::arrival::is_barrier;
 use crate::board::meeting::{barrier_met, work_met};
 use c_model::{MutexKind, Point, SyncKind, SyncStage};
-use omp_model::{Halt, IMPLICIT_REGION, MISMATCH, NESTING, TASKS, TEAM_SIZE};
+use omp_model::{
+    Event, Halt, IMPLICIT_REGION, INITIAL_TASK, MISMATCH, NESTING, STACK, STACK_LIMIT, TASKS,
+    TEAM_SIZE, ThreadStage,
+};
 use sync_objects::LockFault;
 use task_pool::TaskKind;
 use team_parts::Meeting;
@@ -26,7 +36,7 @@ use team_parts::Meeting;
 impl Board {
     /// The event at this point changes what it does beside the code: one line for each. Where it meets a trap or a limit, nothing has changed.
     #[inline(always)]
-    #[tactic(auto, unfolding(omp_model::specs::Going::fault_of_point, omp_model::specs::Going::effect_of_point))]
+    #[tactic(auto, unfolding(omp_model::specs::EventEffects::fault_of_point, omp_model::specs::EventEffects::effect_of_point))]
     pub(super) fn take_effect(&mut self, thread: u8, point: Point) -> Result<(), Halt>
         requires made { IsMadeWorld self.old.world }
         requires creates { MayCreate self.old.program self.old.world thread point }
@@ -56,7 +66,7 @@ impl Board {
             Point::MutexReleased { wait_id, .. } => self.release(thread, wait_id),
             Point::LockInit { wait_id, .. } => self.init_lock(wait_id),
             Point::LockDestroy { wait_id, .. } => self.destroy_lock(wait_id),
-            Point::WorkEnd { .. } | Point::MaskedEnd { .. } => Ok(()),
+            _ => Ok(()),
         }
     }
 
@@ -263,7 +273,7 @@ impl Board {
         requires { 0 < self.old.room.locks }
         ensures effect { let W = self.old.world in IsEffect
             (going.lock_fault (answers.answer_to_init W.locks.locks wait_id))
-            (changes.initialised W wait_id)
+            (changes.with_initialised_lock W wait_id)
             result W self.new.world }
         ensures kept { KeepsPassing self.old self.new }
     {
@@ -274,11 +284,107 @@ impl Board {
     fn destroy_lock(&mut self, wait_id: u32) -> Result<(), Halt>
         ensures effect { let W = self.old.world in IsEffect
             (going.lock_fault (answers.answer_to_destroy W.locks.locks wait_id))
-            (changes.destroyed W wait_id)
+            (changes.without_lock W wait_id)
             result W self.new.world }
         ensures kept { KeepsPassing self.old self.new }
     {
         self.destroy(wait_id).map_err(trap)
+    }
+
+    /// The limit that the event meets, if it meets one.
+    #[tactic(auto, unfolding(omp_model::specs::EventEffects::fault_of))]
+    pub(super) fn limit_met(&self, thread: u8, event: Event) -> Option<Halt>
+        ensures { result ≡ fault_of self.now.world thread event }
+    {
+        match event {
+            Event::InitialTaskBegin | Event::TaskBegin { .. } => self.stack_limit(thread),
+            Event::MemberBegin { .. } => {
+                if self.is_full() {
+                    Some(Halt::Limit(TASKS))
+                } else {
+                    self.stack_limit(thread)
+                }
+            }
+            _ => None,
+        }
+    }
+
+    /// The limit that a task more on the thread's stack meets, if it meets one.
+    fn stack_limit(&self, thread: u8) -> Option<Halt>
+        ensures { result ≡ stack_fault self.now.world thread }
+    {
+        if self.depth(thread) >= STACK_LIMIT {
+            Some(Halt::Limit(STACK))
+        } else {
+            None
+        }
+    }
+
+    /// The event happens, which meets no limit.
+    #[tactic(auto, unfolding(omp_model::specs::EventEffects::effect_of))]
+    pub(super) fn occur(&mut self, thread: u8, event: Event)
+        requires meets { arrival self.old.world thread ≡ RuntimeEvent event }
+        requires made { IsMadeWorld self.old.world }
+        requires fits { fault_of self.old.world thread event ≡ None }
+        requires room { 0 < self.old.room.tasks }
+        ensures { self.new ≡ record self.old { world = effect_of self.old.world thread event; room = self.new.room } }
+    {
+        match event {
+            Event::ThreadBegin => self.set_stage(thread, ThreadStage::Begun),
+            Event::InitialTaskBegin => self.begin_initial(thread),
+            Event::InitialTaskEnd => {
+                self.pop(thread);
+                self.finish(INITIAL_TASK);
+            }
+            Event::MemberBegin { region, task } => self.join(thread, region, task),
+            Event::MemberEnd { task, .. } => {
+                self.pop(thread);
+                self.finish(task);
+                self.empty(task);
+            }
+            Event::TaskBegin { task, .. } => {
+                self.take_up(thread, task);
+                self.start(task);
+            }
+            Event::TaskEnd { task } => {
+                self.pop(thread);
+                self.empty(task);
+            }
+            Event::Dispatch(_) => self.share(thread, None),
+            _ => {}
+        }
+    }
+
+    /// The initial task begins.
+    #[tactic(auto, unfolding(omp_model::specs::EventEffects::effect_of))]
+    fn begin_initial(&mut self, thread: u8)
+        requires { length (thread_at self.old.world thread).stack < STACK_LIMIT }
+        ensures { self.new ≡ record self.old { world = effect_of self.old.world thread event.InitialTaskBegin } }
+    {
+        self.take_up(thread, INITIAL_TASK);
+        self.start(INITIAL_TASK);
+        self.begin_member(IMPLICIT_REGION, 0, INITIAL_TASK);
+    }
+
+    /// A member's implicit task is made and begins.
+    #[tactic(auto, unfolding(omp_model::specs::EventEffects::effect_of))]
+    fn join(&mut self, thread: u8, region: u32, task: u32)
+        requires place { region < length self.old.world.regions }
+        requires parent { MayBeParent self.old.world.pool.tasks (region_at self.old.world region).head.task }
+        requires few { IsOk (answer_to_add self.old.world.pool.tasks) }
+        requires stack { length (thread_at self.old.world thread).stack < STACK_LIMIT }
+        requires room { 0 < self.old.room.tasks }
+        ensures { self.new ≡ record self.old {
+          world = effect_of self.old.world thread (event.MemberBegin region task);
+          room = record self.old.room { tasks = 0 };
+        } }
+    {
+        let parent = self.encountering(region);
+        let member = self.member_index(thread, region);
+        self.add_member(parent, region);
+        self.start(task);
+        self.take_up(thread, task);
+        self.begin_member(region, member, task);
     }
 
     /// Whether a task construct made the task.

@@ -49,7 +49,7 @@ impl Board {
         requires { 0 < self.old.room.locks }
         ensures answer { result ≡ answers.answer_to_init self.old.world.locks.locks wait_id }
         ensures done { OnOk result (self.new ≡ record self.old {
-          world = changes.initialised self.old.world wait_id;
+          world = changes.with_initialised_lock self.old.world wait_id;
           room = record self.old.room { locks = self.new.room.locks };
         }) }
         ensures fault { OnErr result (self.new ≡ self.old) }
@@ -60,7 +60,7 @@ impl Board {
     /// The lock isn't initialised any more.
     pub(super) fn destroy(&mut self, wait_id: u32) -> Result<(), LockFault>
         ensures answer { result ≡ answers.answer_to_destroy self.old.world.locks.locks wait_id }
-        ensures done { OnOk result (self.new ≡ record self.old { world = changes.destroyed self.old.world wait_id }) }
+        ensures done { OnOk result (self.new ≡ record self.old { world = changes.without_lock self.old.world wait_id }) }
         ensures fault { OnErr result (self.new ≡ self.old) }
     {
         self.locks.destroy(wait_id)

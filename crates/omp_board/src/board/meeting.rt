@@ -2,7 +2,7 @@
 
 ghost use Rattle.std.specs.Prelude.{◌≡◌};
 ghost use Rattle.team_parts.specs.Meetings.{HasChunk};
-ghost use Rattle.omp_model.specs.Going as going;
+ghost use Rattle.omp_model.specs.EventEffects as going;
 
 use c_model::{Schedule, SyncKind, Work};
 use omp_codes::sync_kinds;

@@ -6,7 +6,7 @@ ghost use Rattle.omp_model.specs.State.{fresh_region, region_at};
 ghost use Rattle.omp_model.specs.Members.{current_index, current_region};
 ghost use Rattle.omp_model.specs.Changes as changes;
 ghost use Rattle.omp_model.specs.Gates.{all_left};
-ghost use Rattle.omp_model.specs.Going.{after_meeting_at, meeting_at};
+ghost use Rattle.omp_model.specs.EventEffects.{after_meeting_at, meeting_at};
 
 use crate::board::Board;
 use team_parts::{Meeting, Mismatch};
@@ -88,7 +88,7 @@ impl Board {
     #[inline(always)]
     pub(super) fn arrive(&mut self, thread: u8)
         ensures { self.new ≡ record self.old {
-          world = changes.begun self.old.world
+          world = changes.with_wait_begun self.old.world
               (current_region self.old.world thread) (current_index self.old.world thread);
         } }
     {
@@ -99,7 +99,7 @@ impl Board {
     /// The thread's wait at the barrier that it met last ends.
     pub(super) fn pass_barrier(&mut self, thread: u8)
         ensures { self.new ≡ record self.old {
-          world = changes.passed self.old.world
+          world = changes.with_barrier_passed self.old.world
               (current_region self.old.world thread) (current_index self.old.world thread);
         } }
     {

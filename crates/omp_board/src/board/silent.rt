@@ -9,7 +9,7 @@ ghost use Rattle.c_model.specs.Occurring.{IsAskOfNext};
 ghost use Rattle.c_steps.specs.Ready.{FitsProgram};
 ghost use Rattle.c_steps.specs.Scopes.{HasNumbers};
 ghost use Rattle.omp_model.specs.declared.event.Arrival.TheVariants.{Steps};
-ghost use Rattle.omp_model.specs.Changes.{gone_past};
+ghost use Rattle.omp_model.specs.Changes.{with_masked_skipped};
 ghost use Rattle.omp_model.specs.Gates.{arrival};
 ghost use Rattle.omp_model.specs.Members.{code_of, current, view_of};
 ghost use Rattle.omp_model.specs.Silent as silence;
@@ -101,7 +101,7 @@ impl Board {
         } }
         ensures steps { self.old.room.steps ≤ self.new.room.steps + 1 }
         ensures still { IsStill result → view ≡ view_of self.old.world thread →
-            self.new ≡ record self.old { world = gone_past self.old.world thread } }
+            self.new ≡ record self.old { world = with_masked_skipped self.old.world thread } }
         ensures fits { FitsProgram self.old.program result }
         ensures named { IsNamedIn self.old.program result (code_of self.new.world thread).todo }
     {

@@ -6,7 +6,7 @@ ghost use Rattle.task_pool.specs.Tasks.{MayBeParent};
 ghost use Rattle.task_pool.specs.View.{answer_to_add};
 ghost use Rattle.omp_model.specs.State.{pooled_at, task_at};
 ghost use Rattle.omp_model.specs.Changes as changes;
-ghost use Rattle.omp_model.specs.Going.{kind_of_task, member_code};
+ghost use Rattle.omp_model.specs.EventEffects.{kind_of_task, member_code};
 ghost use Rattle.task_pool.specs.declared.task.TaskKind.TheVariants as kind;
 ghost use Rattle.omp_board.specs.Answering.{moment_at};
 ghost use Rattle.omp_board.specs.Tasks.{HasCells, created_by};
@@ -85,7 +85,7 @@ impl Board {
 
     /// A task that was made is ready. Nothing happens to another one.
     pub(super) fn make_ready(&mut self, task: u32)
-        ensures { self.new ≡ record self.old { world = changes.readied self.old.world task } }
+        ensures { self.new ≡ record self.old { world = changes.with_ready_task self.old.world task } }
     {
         if let Condition::Made = self.condition(task) {
             self.pool.ready(task);
@@ -94,7 +94,7 @@ impl Board {
 
     /// A task that hasn't finished starts.
     pub(super) fn start(&mut self, task: u32)
-        ensures { self.new ≡ record self.old { world = changes.started self.old.world task } }
+        ensures { self.new ≡ record self.old { world = changes.with_started_task self.old.world task } }
     {
         match self.condition(task) {
             Condition::Finished => {}
@@ -104,7 +104,7 @@ impl Board {
 
     /// A task that has started finishes.
     pub(super) fn finish(&mut self, task: u32)
-        ensures { self.new ≡ record self.old { world = changes.finished self.old.world task } }
+        ensures { self.new ≡ record self.old { world = changes.with_finished_task self.old.world task } }
     {
         if let Condition::Started = self.condition(task) {
             self.pool.finish(task);
@@ -113,14 +113,14 @@ impl Board {
 
     /// Nothing is kept of the code of the task.
     pub(super) fn empty(&mut self, task: u32)
-        ensures { self.new ≡ record self.old { world = changes.emptied self.old.world task } }
+        ensures { self.new ≡ record self.old { world = changes.without_code self.old.world task } }
     {
         self.tasks.empty(task);
     }
 
     /// The task has forked this region, or, with 0, the region that it had forked is over.
     pub(super) fn set_forked(&mut self, task: u32, region: u32)
-        ensures { self.new ≡ record self.old { world = changes.forked self.old.world task region } }
+        ensures { self.new ≡ record self.old { world = changes.with_forked_region self.old.world task region } }
     {
         self.tasks.set_forked(task, region);
     }

@@ -4,7 +4,7 @@ ghost use Rattle.std.specs.Prelude.{◌≡◌, ◌<◌, ◌≤◌, length};
 ghost use Rattle.omp_model.specs.declared.limits.TheConstants.{STACK_LIMIT};
 ghost use Rattle.omp_model.specs.State.{thread_at};
 ghost use Rattle.omp_model.specs.Changes as changes;
-ghost use Rattle.omp_model.specs.Changes.{all_summoned};
+ghost use Rattle.omp_model.specs.Changes.{with_invitations};
 
 use crate::board::Board;
 use crate::thread::Thread;
@@ -34,7 +34,7 @@ impl Board {
 
     /// The thread has come so far.
     pub(super) fn set_stage(&mut self, thread: u8, stage: ThreadStage)
-        ensures { self.new ≡ record self.old { world = changes.staged self.old.world thread stage } }
+        ensures { self.new ≡ record self.old { world = changes.with_stage self.old.world thread stage } }
     {
         if let Some(thread) = self.threads.get_mut(thread as usize) {
             thread.set_stage(stage);
@@ -54,7 +54,7 @@ impl Board {
 
     /// The thread's current task is taken off its stack.
     pub(super) fn pop(&mut self, thread: u8)
-        ensures { self.new ≡ record self.old { world = changes.popped self.old.world thread } }
+        ensures { self.new ≡ record self.old { world = changes.without_current_task self.old.world thread } }
     {
         if let Some(thread) = self.threads.get_mut(thread as usize) {
             thread.pop();
@@ -63,7 +63,7 @@ impl Board {
 
     /// The thread is to start this undeferred task next.
     pub(super) fn detain(&mut self, thread: u8, task: u32)
-        ensures { self.new ≡ record self.old { world = changes.detained self.old.world thread task } }
+        ensures { self.new ≡ record self.old { world = changes.with_undeferred self.old.world thread task } }
     {
         if let Some(thread) = self.threads.get_mut(thread as usize) {
             thread.detain(task);
@@ -72,7 +72,7 @@ impl Board {
 
     /// The thread has taken a share of work, or that was told.
     pub(super) fn share(&mut self, thread: u8, share: Option<Share>)
-        ensures { self.new ≡ record self.old { world = changes.sharing self.old.world thread share } }
+        ensures { self.new ≡ record self.old { world = changes.with_taken_share self.old.world thread share } }
     {
         if let Some(thread) = self.threads.get_mut(thread as usize) {
             thread.share(share);
@@ -81,7 +81,7 @@ impl Board {
 
     /// The members of a region are to join it, which this thread has forked.
     pub(super) fn open(&mut self, thread: u8, region: u32)
-        ensures { self.new ≡ record self.old { world = changes.opened self.old.world thread region } }
+        ensures { self.new ≡ record self.old { world = changes.with_members_invited self.old.world thread region } }
     {
         if self.is_outermost(region) {
             let size = self.regions.size(region);
@@ -94,7 +94,7 @@ impl Board {
 
 /// The first threads, so many, are to join the region.
 fn summon(threads: &mut [Thread], region: u32, size: usize)
-    ensures { threads.new ≡ all_summoned region size threads.old }
+    ensures { threads.new ≡ with_invitations region size threads.old }
 {
     let size = size.min(threads.len());
     for thread in &mut threads[..size] {

@@ -1,6 +1,6 @@
 use Rattle.std.proofs.Common.{refl, ap, ◌∙◌}
-use Rattle.c_steps.specs.Held.{task_at}
-use Rattle.omp_model.specs.Going.{member_code}
+use Rattle.c_steps.specs.ControlView.{task_at}
+use Rattle.omp_model.specs.EventEffects.{member_code}
 use Rattle.omp_board.specs.Tasks.{code_of}
 use Rattle.omp_board.proofs.Blanks.{last_is_made, others_are_made}
 use Rattle.omp_board.proofs.Members.{can_begin, forked_stands, member_blank, member_coded, none_stands}

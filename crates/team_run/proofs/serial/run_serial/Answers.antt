@@ -3,7 +3,7 @@ use Rattle.omp_model.specs.declared.cause.Cause.TheVariants as causes
 use Rattle.omp_model.specs.State.{Run, State}
 use Rattle.omp_model.specs.Cause.{cause_in, cause_of}
 use Rattle.omp_model.specs.Serial.{serial}
-use Rattle.step_book.specs.Pages.{Pages, state_of}
+use Rattle.step_book.specs.BookView.{BookView, state_of}
 use Rattle.team_run.specs.Program.{run_of_program}
 use Rattle.omp_model.proofs.Recording.{HasRun-after, HasRun-whole}
 use Rattle.omp_model.proofs.SerialLaws.{serial-whole}
@@ -21,7 +21,7 @@ finish-cause-requires-clause-stands g c κs within =
 
 pub finish-cause-requires-clause-parts : goal.finish-cause-requires-clause-parts
 finish-cause-requires-clause-parts g c κs within =
-    (changes-vector g.P.ToolPart.stands_for g.P.ToolPart.same _ c.args.parts.items c.deref_mut.result.now c.initialize_first-start.new.parts c.args.parts.len c.deref_mut.ensures.value (sym c.args.parts.ok.0) c.initialize_first-start.ensures.first).as_many ∙ c.requires.parts ∙ sym (ap (λ (book : Pages). book.run.threads) c.in_ok-book.ensures)
+    (changes-vector g.P.ToolPart.stands_for g.P.ToolPart.same _ c.args.parts.items c.deref_mut.result.now c.initialize_first-start.new.parts c.args.parts.len c.deref_mut.ensures.value (sym c.args.parts.ok.0) c.initialize_first-start.ensures.first).as_many ∙ c.requires.parts ∙ sym (ap (λ (book : BookView). book.run.threads) c.in_ok-book.ensures)
 
 pub returns-clause-ran : goal.returns-clause-ran
 returns-clause-ran g c =
@@ -32,13 +32,13 @@ returns-clause-ran g c =
     let started = take c.args.parts.len (changed ++ drop (length changed) c.args.parts.items) in
     let first : ChangesFirst stands_for Same (λ (h : Record). initialized h start.answer start.registered) c.args.parts.items started =
     changes-vector stands_for Same _ c.args.parts.items c.deref_mut.result.now changed c.args.parts.len c.deref_mut.ensures.value (sym c.args.parts.ok.0) c.initialize_first-start.ensures.first in
-    let book : Pages = c.in_ok-book.book in
+    let book : BookView = c.in_ok-book.book in
     let ended = c.finish-cause.new.self in
     let cause = c.finish-cause.result in
     let run : Run = run_of_program c.args.program c.mask_of-mask.result c.args.threads c.args.steps in
-    let begun : book.run ≡ run = ap (λ (book : Pages). book.run) c.in_ok-book.ensures in
+    let begun : book.run ≡ run = ap (λ (book : BookView). book.run) c.in_ok-book.ensures in
     let serves : ServesTo stands_for book.run started [] ended.parts.items ended.book.history =
-    subst (λ history. ServesTo stands_for book.run started history ended.parts.items ended.book.history) (ap (λ (book : Pages). book.history) c.in_ok-book.ensures) c.finish-cause.ensures.serves in
+    subst (λ history. ServesTo stands_for book.run started history ended.parts.items ended.book.history) (ap (λ (book : BookView). book.history) c.in_ok-book.ensures) c.finish-cause.ensures.serves in
     let stands : cause ≢ causes.Memory → StandsAt book.run (state_of ended.book) ended.next ended.book.history =
     λ found. subst (λ (run : Run). StandsAt run (state_of ended.book) ended.next ended.book.history) c.finish-cause.ensures.run (c.finish-cause.ensures.stands found) in
     let heard : cause ≢ causes.Memory → serves.unheard ≡ None = λ found. unheard-none book.run _ _ _ serves.unheard (stands found) serves.is_unheard in
@@ -71,7 +71,7 @@ returns-clause-ran g c =
 
 pub returns-clause-whole : goal.returns-clause-whole
 returns-clause-whole g c = λ found silent.
-    let same : c.finish-cause.new.self.book.run ≡ run_of_program c.args.program c.mask_of-mask.result c.args.threads c.args.steps = c.finish-cause.ensures.run ∙ ap (λ (book : Pages). book.run) c.in_ok-book.ensures in
+    let same : c.finish-cause.new.self.book.run ≡ run_of_program c.args.program c.mask_of-mask.result c.args.threads c.args.steps = c.finish-cause.ensures.run ∙ ap (λ (book : BookView). book.run) c.in_ok-book.ensures in
     let stands = c.finish-cause.ensures.stands found in
     let quiet : HearsSilent (run_of_program c.args.program c.mask_of-mask.result c.args.threads c.args.steps) c.finish-cause.new.self.book.history = rw (← c.close-history.ensures.history) silent in
     rw c.close-history.ensures.history (subst (λ (run : Run). c.finish-cause.new.self.book.history ≡ serial run) same (sym (serial-whole c.finish-cause.new.self.book.run c.finish-cause.new.self.book.history (HasRun-whole stands.has_run (c.finish-cause.ensures.over found)) (stands.silent (subst (λ (run : Run). HearsSilent run c.finish-cause.new.self.book.history) (sym same) quiet)))))

@@ -1,5 +1,5 @@
 use Rattle.std.proofs.Common.{rules, ◌∷◌, [], length, length-append, ap, List, arith}
-use Rattle.step_book.specs.Sharing.{Sight}
+use Rattle.step_book.specs.Sharing.{PassView}
 use Rattle.thread_run.specs.Drivers.{IsSlot}
 use Rattle.thread_run.proofs.Drivers.{finish-more, whole-next}
 use Rattle.thread_run.proofs.team.finish_all.Goals as goal
@@ -12,7 +12,7 @@ loop-slot-preserved g c =
       tt,
       tt,
       whole-next c.args.slots.items c.loop-slot.yielded _ _ c.in-Some.slot kept.2 next,
-      omega (arith, ap (λ (passes : List Sight). length passes) c.push_reserved.ensures.items, length-append c.loop-slot.passes.items (c.finish-pass.result.0 ∷ []), kept.3, yields),
+      omega (arith, ap (λ (passes : List PassView). length passes) c.push_reserved.ensures.items, length-append c.loop-slot.passes.items (c.finish-pass.result.0 ∷ []), kept.3, yields),
       omega (arith, ap (λ (parts : List g.row.P.Denot). length parts) c.push_reserved-in-loop-slot.ensures.items, length-append c.loop-slot.parts.items (c.finish-pass.result.1 ∷ []), kept.4, yields),
       search rules,
       search rules,

@@ -6,7 +6,7 @@ use Rattle.ompt_calls.specs.declared.argument.Argument.{Argument}
 use Rattle.ompt_calls.specs.Arguments.{arguments_of}
 use Rattle.trace_format.specs.Fitting.{FitsArgument}
 use Rattle.trace_format.proofs.Lengths.{arguments_short}
-use Rattle.trace_format.proofs.Putting.{fits-call, no_argument, put, put-behind, put-within}
+use Rattle.trace_format.proofs.Putting.{no_argument, put, put-behind, put-within}
 use Rattle.trace_format.proofs.writing.put_arguments.Goals as goal
 
 pub argument-requires : goal.argument-requires
@@ -38,5 +38,4 @@ pub returns-clause-fits : goal.returns-clause-fits
 returns-clause-fits c =
     let items = c.as_slice-argument-items.result.now in
     let are : items ≡ arguments_of c.args.call.now = c.as_slice-argument-items.ensures ∙ c.arguments-arguments.ensures in
-    fits-call c.args.call.now
-    (subst (All FitsArgument) (take_all c.loop-argument.argument-index items c.loop-argument-test.false ∙ are) c.loop-argument.invariant.fits)
+    subst (All FitsArgument) (take_all c.loop-argument.argument-index items c.loop-argument-test.false ∙ are) c.loop-argument.invariant.fits

@@ -1,5 +1,5 @@
 use Rattle.std.proofs.Common.{sym, ◌∙◌}
-use Rattle.c_steps.specs.Held.{moment_at}
+use Rattle.c_steps.specs.ControlView.{moment_at}
 use Rattle.c_steps.proofs.Advancing.{kept_unchanging, made_after, made_settled, silent_front, silent_none}
 use Rattle.c_steps.proofs.Occurring.{named_front}
 use Rattle.c_steps.proofs.control.Control.advance.Goals as goal
@@ -23,7 +23,7 @@ returns-in-Some-clause-named c =
 
 pub returns-in-None-clause-step : goal.returns-in-None-clause-step
 returns-in-None-clause-step c =
-    c.ended.ensures.step c.args.code.now (moment_at c.args.code.now c.settle.new.self c.args.cells.now) ∙ sym (silent_none c.args.code.now c.args.view c.args.self.now c.settle.new.self c.args.cells.now c.in-None.ensures.task c.in-None.ensures.none)
+    (c.ended.ensures.tells c.args.code.now).step (moment_at c.args.code.now c.settle.new.self c.args.cells.now) ∙ sym (silent_none c.args.code.now c.args.view c.args.self.now c.settle.new.self c.args.cells.now c.in-None.ensures.task c.in-None.ensures.none)
 
 pub returns-in-None-clause-made : goal.returns-in-None-clause-made
 returns-in-None-clause-made c =
@@ -31,10 +31,10 @@ returns-in-None-clause-made c =
 
 pub returns-in-None-clause-kept : goal.returns-in-None-clause-kept
 returns-in-None-clause-kept c =
-    kept_unchanging c.args.code.now c.args.view c.args.self.now c.settle.new.self c.args.cells.now c.in-None.ensures.task c.ended.result c.in-None.ensures.rest c.ended.ensures.unchanged
+    kept_unchanging c.args.code.now c.args.view c.args.self.now c.settle.new.self c.args.cells.now c.in-None.ensures.task c.ended.result c.in-None.ensures.rest (c.ended.ensures.tells c.args.code.now).unchanged
 
 pub returns-in-None-clause-numbers : goal.returns-in-None-clause-numbers
-returns-in-None-clause-numbers c = c.ended.ensures.numbers c.args.code.now
+returns-in-None-clause-numbers c = (c.ended.ensures.tells c.args.code.now).numbers
 
 pub returns-in-None-clause-named : goal.returns-in-None-clause-named
 returns-in-None-clause-named c = c.ended.ensures.named c.args.code.now c.settle.new.self

@@ -1,6 +1,6 @@
 use Rattle.std.proofs.Common.{ap, not, sym, rules}
 use Rattle.c_syntax.specs.language.Numbered.{tree_at}
-use Rattle.c_steps.specs.Held.{bound_in}
+use Rattle.c_steps.specs.ControlView.{bound_in}
 use Rattle.c_steps.proofs.Counting.{own_cells_fit, own_cells_full, own_cells_pass}
 use Rattle.c_steps.proofs.control.Control.has_own_room.Goals as goal
 

@@ -1,9 +1,9 @@
-use Rattle.std.proofs.Common.{◌≡◌, ◌+◌, ◌≤◌, length, sym, subst}
+use Rattle.std.proofs.Common.{◌≡◌, ◌+◌, ◌≤◌, length, sym, subst, rules}
 use Rattle.c_syntax.specs.language.Numbered.{tree_at}
 use Rattle.c_model.specs.Cells.{has_too_many}
 use Rattle.c_model.specs.Copies.{listed_variables, with_own_cells}
 use Rattle.c_model.specs.declared.limits.TheConstants.{CELL_LIMIT}
-use Rattle.c_steps.specs.Held.{bound_in}
+use Rattle.c_steps.specs.ControlView.{bound_in}
 use Rattle.c_steps.specs.OwnCells.{made_own, with_made, with_made_cells}
 use Rattle.c_steps.proofs.OwnNames.{has_room, own_fits, own_names_within, own_step}
 use Rattle.c_steps.proofs.control.Control.make_cells.Goals as goal
@@ -21,10 +21,10 @@ pub make_own-requires-clause-names : goal.make_own-requires-clause-names
 make_own-requires-clause-names c =
     let code = c.args.code.now in
     let count = length (listed_variables (tree_at code.trees c.args.node)) + 1 in
-    subst (λ held. count ≤ held.names_now) (sym c.step.ensures) (subst (λ most. count ≤ most) (sym c.requires.names) (own_names_within code c.args.node c.requires.node))
+    subst (λ held. count ≤ held.names_now) (sym c.step.ensures) (subst (λ most. count ≤ most) (sym c.requires.ready.brings) (own_names_within code c.args.node c.requires.node))
 
-pub returns-clause-step : goal.returns-clause-step
-returns-clause-step c =
+pub returns : goal.returns
+returns c =
     let code = c.args.code.now in
     let old = c.args.self.now in
     let before = c.args.cells.now in
@@ -35,4 +35,9 @@ returns-clause-step c =
     let base = subst (λ held. held.base ≤ length held.names) c.step.ensures c.make_own.ensures.base in
     let control = subst (λ held. new ≡ with_made (made_own code (bound_in code held before) before.cells construct) held) c.step.ensures c.make_own.ensures.control in
     let cells = subst (λ held. after ≡ with_made_cells (made_own code (bound_in code held before) before.cells construct) before) c.step.ensures c.make_own.ensures.cells in
-    own_step code c.args.view old before construct base c.requires.ready.calls new after control cells fits
+    record {
+      step = own_step code c.args.view old before construct base c.requires.ready.stepping.calls new after control cells fits;
+      settled = search rules;
+      numbers = tt;
+      frames = search rules;
+    }

@@ -3,7 +3,7 @@ use Rattle.std.proofs.lemmas.List.{length-map}
 use Rattle.c_syntax.specs.language.Numbered.{tree_at}
 use Rattle.c_model.specs.Copies.{listed_variables}
 use Rattle.c_model.specs.declared.limits.TheConstants.{CELL_LIMIT}
-use Rattle.c_steps.specs.Held.{bound_in}
+use Rattle.c_steps.specs.ControlView.{bound_in}
 use Rattle.c_steps.specs.ListedNames.{listed_from, listed_of}
 use Rattle.c_steps.specs.Moves.{bound}
 use Rattle.c_steps.specs.OwnCells.{copy_entry, copy_numbers, listed_copy, with_made, with_made_cells, with_numbers}

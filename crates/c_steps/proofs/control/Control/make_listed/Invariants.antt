@@ -1,7 +1,7 @@
 use Rattle.std.proofs.Common.{length, map}
 use Rattle.c_syntax.specs.language.Numbered.{tree_at}
 use Rattle.c_model.specs.Copies.{listed_variables}
-use Rattle.c_steps.specs.Held.{bound_in}
+use Rattle.c_steps.specs.ControlView.{bound_in}
 use Rattle.c_steps.specs.ListedNames.{listed_from}
 use Rattle.c_steps.specs.OwnCells.{listed_copy}
 use Rattle.c_steps.proofs.OwnNames.{IsMaking}

@@ -1,7 +1,7 @@
 use Rattle.std.proofs.Common.{ap, arith}
 use Rattle.c_syntax.specs.language.Numbered.{tree_at}
 use Rattle.c_model.specs.Copies.{listed_variables}
-use Rattle.c_steps.specs.Held.{Held, bound_in}
+use Rattle.c_steps.specs.ControlView.{ControlView, bound_in}
 use Rattle.c_steps.proofs.OwnNames.{listed_count}
 use Rattle.c_steps.proofs.control.Control.make_own.Goals as goal
 
@@ -11,7 +11,7 @@ make_loop_variable-requires-clause-free c =
     let listed = listed_variables (tree_at code.trees c.args.node) in
     omega (
       arith,
-      ap Held.names_now c.make_listed.ensures.control,
+      ap ControlView.names_now c.make_listed.ensures.control,
       listed_count (bound_in code c.args.self.now c.args.cells.now) c.args.cells.now.cells listed,
       c.requires.names,
     )

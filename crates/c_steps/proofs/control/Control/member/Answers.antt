@@ -3,7 +3,7 @@ use Rattle.c_syntax.specs.language.Numbered.{tree_at}
 use Rattle.c_model.specs.Begin.{member_items}
 use Rattle.c_model.specs.Task.{Item}
 use Rattle.c_steps.specs.Beginning.{IsPutBefore, forked_of}
-use Rattle.c_steps.specs.Held.{Held}
+use Rattle.c_steps.specs.ControlView.{ControlView}
 use Rattle.c_steps.specs.Items.{with_file}
 use Rattle.c_steps.specs.Moves.{beginning}
 use Rattle.c_steps.proofs.Members.{member_made, member_stands, none_forked}
@@ -20,7 +20,7 @@ returns-clause-task c =
     member_stands c.args.code.now _ c.args.self.now c.args.into.now c.begin_member.new.self c.in-Some.node c.own_names.result refl
     (ap (λ (item : Option Item). forked_of item) c.front.ensures.first ∙ c.in-Some.ensures.construct c.args.code.now)
     c.own_names.ensures
-    (subst (λ (old : Held). IsPutBefore c.args.code.now (member_items (tree_at c.args.code.now.trees c.in-Some.node) (with_file c.args.code.now c.own_names.result)) old c.begin_member.new.self) (c.inherit.ensures ∙ ap (λ entries. beginning entries c.args.into.now) c.own_entries.ensures.names) c.begin_member.ensures)
+    (subst (λ (old : ControlView). IsPutBefore c.args.code.now (member_items (tree_at c.args.code.now.trees c.in-Some.node) (with_file c.args.code.now c.own_names.result)) old c.begin_member.new.self) (c.inherit.ensures ∙ ap (λ entries. beginning entries c.args.into.now) c.own_entries.ensures.names) c.begin_member.ensures)
 
 -- src/control/member.rt:30:5
 pub returns-clause-made : goal.returns-clause-made
@@ -28,5 +28,5 @@ returns-clause-made c =
     member_made c.args.code.now _ c.args.self.now c.args.into.now c.begin_member.new.self c.in-Some.node c.own_names.result refl
     (ap (λ (item : Option Item). forked_of item) c.front.ensures.first ∙ c.in-Some.ensures.construct c.args.code.now)
     c.own_names.ensures
-    (subst (λ (old : Held). IsPutBefore c.args.code.now (member_items (tree_at c.args.code.now.trees c.in-Some.node) (with_file c.args.code.now c.own_names.result)) old c.begin_member.new.self) (c.inherit.ensures ∙ ap (λ entries. beginning entries c.args.into.now) c.own_entries.ensures.names) c.begin_member.ensures)
+    (subst (λ (old : ControlView). IsPutBefore c.args.code.now (member_items (tree_at c.args.code.now.trees c.in-Some.node) (with_file c.args.code.now c.own_names.result)) old c.begin_member.new.self) (c.inherit.ensures ∙ ap (λ entries. beginning entries c.args.into.now) c.own_entries.ensures.names) c.begin_member.ensures)
     c.requires.made c.requires.into

@@ -1,6 +1,6 @@
 use Rattle.std.proofs.Common.{◌≡◌, ◌+◌}
-use Rattle.c_steps.specs.Made.{IsMadeFor}
-use Rattle.c_steps.specs.Scopes.{HasNumbers}
+use Rattle.c_steps.specs.OfProgram.{IsMadeFor}
+use Rattle.c_steps.specs.Views.{HasNumbers}
 use Rattle.c_steps.specs.Trying.{HaveStepsMade}
 use Rattle.c_steps.proofs.control.Control.try_steps.Given as goal
 

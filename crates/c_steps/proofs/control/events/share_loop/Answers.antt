@@ -4,8 +4,8 @@ use Rattle.c_steps.specs.Ready.{AreLoopNumbers, AreWorkNumbers}
 use Rattle.c_steps.proofs.Iterating.{are_loop_numbers, cell_of_i32}
 use Rattle.c_steps.proofs.control.events.share_loop.Goals as goal
 
-pub returns-clause-numbers : goal.returns-clause-numbers
-returns-clause-numbers c =
+pub returns : goal.returns
+returns c =
     let parts = c.args.parts in
     let start : FitsSigned w32 c.args.start = c.ranges.start in
     let end : FitsSigned w32 c.args.end = c.ranges.end in
@@ -13,4 +13,8 @@ returns-clause-numbers c =
     let work = simp to_z-of_z at c.loop_work-work.ensures in
     let count = simp to_z-of_z at c.iteration_count-count.ensures in
     let numbers = are_loop_numbers parts.comparison c.args.start c.args.end parts.step (cell_of_i32 c.args.start start) (cell_of_i32 c.args.end end) c.requires.goes_on in
-    (c.requires.node, subst AreWorkNumbers (sym work) (subst (λ count. AreLoopNumbers c.args.start count parts.step) (sym count) numbers))
+    record {
+      step = search rules;
+      unchanged = search rules;
+      numbers = (c.requires.node, subst AreWorkNumbers (sym work) (subst (λ count. AreLoopNumbers c.args.start count parts.step) (sym count) numbers));
+    }

@@ -1,6 +1,6 @@
 use Rattle.std.proofs.Common.{◌≡◌, true, false, [], rules}
 use Rattle.std.proofs.lemmas.List.Elements.{All-nil}
-use Rattle.c_model.specs.Step.{is_passed_over}
+use Rattle.c_model.specs.Step.{skips_masked}
 use Rattle.c_steps.specs.Items.{item_at}
 use Rattle.c_steps.specs.Ready.{IsFrame}
 use Rattle.c_steps.proofs.Standing.{follows_frame, follows_instead, follows_itself, follows_past, found_front, less_past, nothing_front, over_front, past_front}
@@ -24,12 +24,12 @@ loop-other-smaller-in-Instead c = c.in-Instead.ensures.less
 pub loop-other-preserved-in-Instead : goal.loop-other-preserved-in-Instead
 loop-other-preserved-in-Instead c = follows_instead c.args.code.now c.args.view c.args.frame c.loop-other.shown c.loop-other.invariant c.in-Instead.other c.in-Instead.ensures
 
-pub is_passed_over-requires : goal.is_passed_over-requires
-is_passed_over-requires c = (c.in-Found.ensures.front [] (All-nil (IsFrame c.args.code.now))).is_item
+pub skips_masked-requires : goal.skips_masked-requires
+skips_masked-requires c = (c.in-Found.ensures.front [] (All-nil (IsFrame c.args.code.now))).is_item
 
-pub returns-then-not-is_passed_over : goal.returns-then-not-is_passed_over
-returns-then-not-is_passed_over c =
-    let past : is_passed_over (item_at c.args.code.now c.in-Found.item) c.args.view ≡ false = search rules in
+pub returns-then-not-skips_masked : goal.returns-then-not-skips_masked
+returns-then-not-skips_masked c =
+    let past : skips_masked (item_at c.args.code.now c.in-Found.item) c.args.view ≡ false = search rules in
     found_front c.args.code.now c.args.view c.args.frame c.loop-other.shown c.loop-other.invariant c.in-Found.item c.in-Found.ensures past
 
 pub loop-other-smaller : goal.loop-other-smaller
@@ -37,10 +37,10 @@ loop-other-smaller c = less_past c.args.code.now c.args.view c.args.frame c.loop
 
 pub loop-other-preserved : goal.loop-other-preserved
 loop-other-preserved c =
-    let past : is_passed_over (item_at c.args.code.now c.in-Found.item) c.args.view ≡ true = search rules in
+    let past : skips_masked (item_at c.args.code.now c.in-Found.item) c.args.view ≡ true = search rules in
     follows_past c.args.code.now c.args.view c.args.frame c.loop-other.shown c.loop-other.invariant c.in-Found.item c.in-Found.ensures c.in-Some.other past c.in-Some.ensures
 
 pub returns-in-None : goal.returns-in-None
 returns-in-None c =
-    let past : is_passed_over (item_at c.args.code.now c.in-Found.item) c.args.view ≡ true = search rules in
+    let past : skips_masked (item_at c.args.code.now c.in-Found.item) c.args.view ≡ true = search rules in
     past_front c.args.code.now c.args.view c.args.frame c.loop-other.shown c.loop-other.invariant c.in-Found.item c.in-Found.ensures past c.in-None.ensures

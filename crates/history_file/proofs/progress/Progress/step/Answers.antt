@@ -1,7 +1,7 @@
 use Rattle.std.proofs.Common.{IfOk, ap, sym, subst}
 use Rattle.omp_model.specs.declared.history.Entry.{Entry}
 use Rattle.omp_model.specs.declared.history.What.{What}
-use Rattle.history_file.specs.Coming.{entry_of}
+use Rattle.history_file.specs.RerunProgress.{entry_of}
 use Rattle.history_file.specs.Progressing.{Steps}
 use Rattle.history_file.proofs.progress.Progress.step.Goals as goal
 

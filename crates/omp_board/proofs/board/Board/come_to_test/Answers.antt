@@ -4,8 +4,8 @@ use Rattle.c_model.specs.Step.{silent}
 use Rattle.c_model.specs.Task.Outcome.{Occurs}
 use Rattle.c_syntax.specs.language.Numbered.{tree_at}
 use Rattle.omp_model.specs.State.{World}
-use Rattle.omp_model.specs.Changes.{gone_past}
-use Rattle.omp_model.specs.Made.{IsMadeWorld}
+use Rattle.omp_model.specs.Changes.{with_masked_skipped}
+use Rattle.omp_model.specs.MadeWorld.{IsMadeWorld}
 use Rattle.omp_model.specs.Members.{code_of, current, moment_of, view_of}
 use Rattle.omp_model.proofs.MadeRuns.{past-made}
 use Rattle.omp_board.specs.Board.{BoardView, IsGoingTo}
@@ -46,7 +46,7 @@ returns-clause-going c =
     let tree = tree_at program.trees c.args.node in
     let told = world_told program W t c.requires.settled c.requires.made tree c.args.wait_id c.requires.asks in
     let looked = subst (λ (now : BoardView). IsGoingTo now.program now.world t (moment_of now.world t) c.in-Event.point c.come_to.result c.come_to.new.self.world) (c.in-Event.ensures.still tt) c.come_to.ensures.going in
-    let past = subst (λ (now : BoardView). IsGoingTo now.program (gone_past now.world t) t (moment_of (gone_past now.world t) t) c.in-Event.point c.come_to.result c.come_to.new.self.world) c.tell_free.ensures looked in
+    let past = subst (λ (now : BoardView). IsGoingTo now.program (with_masked_skipped now.world t) t (moment_of (with_masked_skipped now.world t) t) c.in-Event.point c.come_to.result c.come_to.new.self.world) c.tell_free.ensures looked in
     let same = past_same told t (settled_told program W t c.requires.settled c.requires.made tree c.args.wait_id c.requires.asks) in
     let going = subst (λ (V : World). IsGoingTo program V t (moment_of V t) c.in-Event.point c.come_to.result c.come_to.new.self.world) same past in
     let occurs = subst (λ (now : BoardView). Occurs c.in-Event.point (tree_at now.program.trees c.in-Event.node) ≡ silent now.program (view_of now.world t) (moment_of now.world t)) c.tell_free.ensures c.in-Event.ensures.outcome in

@@ -1,6 +1,6 @@
 use Rattle.std.proofs.Common.{add-one, ap, ◌∙◌, get_or, set, arith}
 use Rattle.omp_model.specs.State.{Thread}
-use Rattle.omp_model.specs.Changes.{summoned}
+use Rattle.omp_model.specs.Changes.{with_invitation}
 use Rattle.omp_board.proofs.Summoning.{all_of, none_yet, one_more}
 use Rattle.omp_board.proofs.board.threads.summon.Goals as goal
 
@@ -12,7 +12,7 @@ loop-thread-preserved c =
     let i = c.loop-thread.thread-index in
     rw add-one
     (ap (λ (thread : Thread). set c.loop-thread.thread-items i thread) c.summon.ensures
-    ∙ ap (λ threads. set threads i (summoned c.args.region (get_or threads i c.thread-item.result))) c.loop-thread.invariant
+    ∙ ap (λ threads. set threads i (with_invitation c.args.region (get_or threads i c.thread-item.result))) c.loop-thread.invariant
     ∙ one_more c.args.region i _ c.thread-item.result c.loop-thread-test.true)
 
 pub returns : goal.returns

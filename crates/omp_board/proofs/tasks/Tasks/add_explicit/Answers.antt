@@ -1,5 +1,5 @@
 use Rattle.std.proofs.Common.{IfSome, refl, sym, ap, ◌∙◌, subst, arith}
-use Rattle.c_steps.specs.Made.{IsMadeFor}
+use Rattle.c_steps.specs.OfProgram.{IsMadeFor}
 use Rattle.omp_board.specs.declared.task.Task.{Task}
 use Rattle.omp_board.specs.Tasks.{TasksView}
 use Rattle.omp_board.proofs.Kept.{kept_more}

@@ -1,5 +1,5 @@
 use Rattle.std.proofs.Common.{ap, ◌∙◌}
-use Rattle.c_model.specs.Going.{settled_after_answer}
+use Rattle.c_model.specs.AfterEvents.{settled_after_answer}
 use Rattle.omp_board.specs.Keeping.{kept_nothing}
 use Rattle.omp_board.specs.Tasks.{one_step_less}
 use Rattle.omp_board.proofs.NoCode.{none_kept, none_past, unanswered}

@@ -1,7 +1,7 @@
 use Rattle.std.proofs.Common.{sym, subst, refl, arith}
 use Rattle.std.specs.List.{All}
 use Rattle.std.proofs.lemmas.List.Elements.{All-nil}
-use Rattle.c_steps.specs.Made.{IsMadeFor}
+use Rattle.c_steps.specs.OfProgram.{IsMadeFor}
 use Rattle.omp_board.proofs.Kept.{kept_first}
 use Rattle.omp_board.proofs.tasks.Tasks.new.Goals as goal
 

@@ -1,6 +1,6 @@
 use Rattle.std.proofs.Common.{subst, sym}
 use Rattle.omp_machine.specs.State.{StateView, run_in}
-use Rattle.omp_machine.specs.Standing.{IsSound}
+use Rattle.omp_machine.specs.MachineView.{IsSound}
 use Rattle.omp_machine.proofs.Sound.{sound-back}
 use Rattle.omp_machine.proofs.machine.Machine.back.Goals as goal
 

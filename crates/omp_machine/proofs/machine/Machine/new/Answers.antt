@@ -3,7 +3,7 @@ use Rattle.c_syntax.specs.language.Numbered.{TreeView}
 use Rattle.omp_model.specs.State.{Run, State}
 use Rattle.omp_machine.specs.declared.settings.Settings.{Settings}
 use Rattle.omp_machine.specs.State.{run_in}
-use Rattle.omp_machine.specs.Standing.{IsSound}
+use Rattle.omp_machine.specs.MachineView.{IsSound}
 use Rattle.omp_machine.proofs.Sound.{sound-first}
 use Rattle.omp_machine.proofs.machine.Machine.new.Goals as goal
 

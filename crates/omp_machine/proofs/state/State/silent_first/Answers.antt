@@ -1,6 +1,6 @@
 use Rattle.std.proofs.Common.{refl, subst}
 use Rattle.omp_model.specs.declared.limits.TheConstants.{STEPS_OF_A_TURN}
-use Rattle.omp_model.specs.Made.{IsMadeWorld}
+use Rattle.omp_model.specs.MadeWorld.{IsMadeWorld}
 use Rattle.omp_model.specs.State.{Run}
 use Rattle.omp_model.specs.Turn.{Walk}
 use Rattle.omp_model.proofs.Guards.{made-walk}

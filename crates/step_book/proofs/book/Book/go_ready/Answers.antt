@@ -2,7 +2,7 @@ use Rattle.std.proofs.Common.{◌≡◌, ◌<◌, ◌∙◌, ◌++◌, ◌∷◌
 use Rattle.omp_model.specs.Storing.{go_at}
 use Rattle.omp_model.specs.State.{Run}
 use Rattle.omp_model.specs.Turn.{turn}
-use Rattle.omp_machine.specs.Standing.{is_call}
+use Rattle.omp_machine.specs.MachineView.{is_call}
 use Rattle.omp_machine.proofs.Telling.{alone-by}
 use Rattle.step_book.proofs.Visiting.{book-alone, book-returned, book-turned, enabled-here, owes-turned, same-run, short-history}
 use Rattle.step_book.proofs.book.Book.go_ready.Goals as goal

@@ -6,7 +6,7 @@ use Rattle.omp_model.specs.State.{Run}
 use Rattle.omp_machine.specs.declared.ready.Ready.{Ready}
 use Rattle.omp_model.proofs.Turns.{turn-goes}
 use Rattle.omp_model.proofs.Recording.{first_enabled-enabled}
-use Rattle.step_book.specs.Pages.{state_of}
+use Rattle.step_book.specs.BookView.{state_of}
 use Rattle.team_run.specs.Standing.{StandsAt, StopsAt}
 use Rattle.team_run.specs.Serving.{Serves}
 use Rattle.team_run.proofs.Serving.{serves-then, same-then}

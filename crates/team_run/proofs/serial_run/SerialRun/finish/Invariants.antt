@@ -1,6 +1,6 @@
 use Rattle.std.proofs.Common.{◌≡◌, ◌-◌, None}
 use Rattle.omp_model.specs.declared.limits.TheConstants.{TURN_LIMIT}
-use Rattle.step_book.specs.Pages.{state_of}
+use Rattle.step_book.specs.BookView.{state_of}
 use Rattle.team_run.specs.Serving.{Serves, AreSame}
 use Rattle.team_run.specs.Standing.{StandsAt}
 use Rattle.team_run.proofs.serial_run.SerialRun.finish.Given as goal

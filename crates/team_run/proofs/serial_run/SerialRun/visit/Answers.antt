@@ -1,7 +1,7 @@
 use Rattle.std.proofs.Common.{◌≡◌, ◌∙◌, refl, sym, ap, subst, arith, inl, inr, ◌∷◌, []}
 use Rattle.omp_model.specs.Storing.{go_at}
 use Rattle.omp_model.proofs.Recording.{first_enabled-enabled, first_enabled-below}
-use Rattle.step_book.specs.Pages.{Pages, state_of, with_entries}
+use Rattle.step_book.specs.BookView.{BookView, state_of, with_entries}
 use Rattle.step_book.proofs.Telling.{told-step, quiet-step, ended-step, not_yet-step}
 use Rattle.team_run.specs.Serving.{Answers}
 use Rattle.team_run.proofs.Serving.{same-itself}
@@ -28,16 +28,16 @@ serve-requires-clause-part g c κs within =
 pub returns-in-Told : goal.returns-in-Told
 returns-in-Told g c =
     let stands_for = g.P.ToolPart.stands_for in
-    let book : Pages = c.args.self.now.book in
+    let book : BookView = c.args.self.now.book in
     let t = c.args.ready.thread in
     let parts = c.args.self.now.parts.items in
     let later = c.serve.new.self in
     let told = told-step book t c.in-Told.seq c.in-Told.call c.in-Told.snapshot (sym c.in_ok-step.ensures.step ∙ c.in-Told.is) in
     let whole : c.go_ready.new.self ≡ with_entries book (go_at t ∷ []) = c.in_ok-step.ensures.added ∙ ap (with_entries book) told.added_is in
-    let same : later.book.run ≡ book.run = c.serve.ensures.run ∙ ap (λ (next : Pages). next.run) whole in
+    let same : later.book.run ≡ book.run = c.serve.ensures.run ∙ ap (λ (next : BookView). next.run) whole in
     let visited : Answers stands_for c.in-Told.seq t c.in-Told.call c.in-Told.snapshot parts c.go_ready.new.self.history later.parts.items later.book.history → Visited stands_for book.run book.history t parts later.parts.items later.book.history =
     λ answered. visited-said book.run _ book.history t c.requires.stands c.requires.turn _ _ told.is_told stands_for parts later.parts.items c.in-Told.seq told.place later.book.history
-    (subst (λ (next : Pages). Answers stands_for c.in-Told.seq t c.in-Told.call c.in-Told.snapshot parts next.history later.parts.items later.book.history) whole answered) in
+    (subst (λ (next : BookView). Answers stands_for c.in-Told.seq t c.in-Told.call c.in-Told.snapshot parts next.history later.parts.items later.book.history) whole answered) in
     record {
       run = same;
       serves = from_either c.serve.result c.serve.ensures.answers c.serve.ensures.memory
@@ -54,7 +54,7 @@ returns-in-Told g c =
 pub returns-in-Quiet : goal.returns-in-Quiet
 returns-in-Quiet g c =
     let stands_for = g.P.ToolPart.stands_for in
-    let book : Pages = c.args.self.now.book in
+    let book : BookView = c.args.self.now.book in
     let t = c.args.ready.thread in
     let parts = c.args.self.now.parts.items in
     let step = sym c.in_ok-step.ensures.step in

@@ -2,7 +2,7 @@ use Rattle.std.proofs.Common.{◌≡◌, [], refl, ◌∙◌}
 use Rattle.std.proofs.lemmas.List.Elements.{All-push}
 use Rattle.ompt_calls.specs.Item.{Item}
 use Rattle.tool_api.specs.Record.{Record}
-use Rattle.tool_report.specs.Standing.{ProfileFor}
+use Rattle.tool_report.specs.KeeperRelation.{ProfileFor}
 use Rattle.tool_report.proofs.Kept.{kept-more}
 use Rattle.tool_report.proofs.profile.ProfileToolPart.callback.Goals as goal
 

@@ -5,6 +5,7 @@ use Rattle.trace_format.specs.Flat.{stage_in}
 use Rattle.trace_format.specs.Taking.{HasTaken, Reading}
 use Rattle.trace_format.proofs.Accepted.{after_by, next_holds_by, next_taken, none_of, refused_by, some_of, whole_holds, whole_spells, whole_taken}
 use Rattle.trace_format.proofs.Outcomes.{part_holds, part_taken}
+use Rattle.trace_format.proofs.ReadAs.{item_is}
 use Rattle.trace_format.proofs.Spelling.{take_bytes}
 use Rattle.trace_format.proofs.Stepping.{behind, lacks, next_front, next_place, passed, takes_some, told, uses, whole_range}
 use Rattle.trace_format.proofs.reader.Reader.step.Goals as goal
@@ -121,14 +122,14 @@ count_in-requires-clause-count c =
     let h = c.self.invariant (ap (λ (r : Reading). r.refusal) c.self.view_is ∙ c.requires.open) in
     let u = uses _ _ _ _ _ h c.as_slice.result.now c.in-Some.coming c.args.piece.now c.width-width.result c.len.result c.min-used.result c.as_slice.ensures (sym c.in-Some.ensures) c.width-width.ensures c.len.ensures c.min-used.ensures in
     let k = passed _ _ _ _ _ h c.in-Some.coming c.args.piece.now _ _ _ c.add-2.new.self c.as_slice-2.result.now u c.if-used-lacking.false c.add-2.ensures c.as_slice-2.ensures (take_bytes c.min-used.result c.args.piece.now (λ i. (c.type_inv.piece i).fits)) (sym c.if-not-passes.ensures) in
-    (whole_range _ _ _ _ _ c.in-Some.coming h (take c.min-used.result c.args.piece.now) c.add-2.new.self c.as_slice-3.result.now c.as_slice-4.result.now c.min-used.result c.item_in-item.result k c.as_slice-3.ensures c.as_slice-4.ensures (sym c.next_field-2.ensures ∙ none_of c.next_field-2.result c.if-is_some.ensures) c.item_in-item.ensures).count
+    (whole_range _ _ _ _ _ c.in-Some.coming h (take c.min-used.result c.args.piece.now) c.add-2.new.self c.as_slice-3.result.now c.as_slice-4.result.now c.min-used.result c.item_in-item.result k c.as_slice-3.ensures c.as_slice-4.ensures (sym c.next_field-2.ensures ∙ none_of c.next_field-2.result c.if-is_some.ensures) (item_is _ _ _ c.item_in-item.ensures)).count
 
 pub count_in-requires-clause-least : goal.count_in-requires-clause-least
 count_in-requires-clause-least c =
     let h = c.self.invariant (ap (λ (r : Reading). r.refusal) c.self.view_is ∙ c.requires.open) in
     let u = uses _ _ _ _ _ h c.as_slice.result.now c.in-Some.coming c.args.piece.now c.width-width.result c.len.result c.min-used.result c.as_slice.ensures (sym c.in-Some.ensures) c.width-width.ensures c.len.ensures c.min-used.ensures in
     let k = passed _ _ _ _ _ h c.in-Some.coming c.args.piece.now _ _ _ c.add-2.new.self c.as_slice-2.result.now u c.if-used-lacking.false c.add-2.ensures c.as_slice-2.ensures (take_bytes c.min-used.result c.args.piece.now (λ i. (c.type_inv.piece i).fits)) (sym c.if-not-passes.ensures) in
-    (whole_range _ _ _ _ _ c.in-Some.coming h (take c.min-used.result c.args.piece.now) c.add-2.new.self c.as_slice-3.result.now c.as_slice-4.result.now c.min-used.result c.item_in-item.result k c.as_slice-3.ensures c.as_slice-4.ensures (sym c.next_field-2.ensures ∙ none_of c.next_field-2.result c.if-is_some.ensures) c.item_in-item.ensures).least
+    (whole_range _ _ _ _ _ c.in-Some.coming h (take c.min-used.result c.args.piece.now) c.add-2.new.self c.as_slice-3.result.now c.as_slice-4.result.now c.min-used.result c.item_in-item.result k c.as_slice-3.ensures c.as_slice-4.ensures (sym c.next_field-2.ensures ∙ none_of c.next_field-2.result c.if-is_some.ensures) (item_is _ _ _ c.item_in-item.ensures)).least
 
 pub invariant_of-self-2 : goal.invariant_of-self-2
 invariant_of-self-2 c =
@@ -136,7 +137,7 @@ invariant_of-self-2 c =
     let h = c.self.invariant (ap (λ (r : Reading). r.refusal) c.self.view_is ∙ c.requires.open) in
     let u = uses _ _ _ _ _ h c.as_slice.result.now c.in-Some.coming c.args.piece.now c.width-width.result c.len.result c.min-used.result c.as_slice.ensures (sym c.in-Some.ensures) c.width-width.ensures c.len.ensures c.min-used.ensures in
     let k = passed _ _ _ _ _ h c.in-Some.coming c.args.piece.now _ _ _ c.add-2.new.self c.as_slice-2.result.now u c.if-used-lacking.false c.add-2.ensures c.as_slice-2.ensures (take_bytes c.min-used.result c.args.piece.now (λ i. (c.type_inv.piece i).fits)) (sym c.if-not-passes.ensures) in
-    whole_holds _ (stage_in c.count_in.new.self) _ _ _ _ c.in-Some.coming h (take c.min-used.result c.args.piece.now) c.add-2.new.self c.as_slice-3.result.now c.as_slice-4.result.now c.clear.new.self c.min-used.result c.item_in-item.result k c.as_slice-3.ensures c.as_slice-4.ensures (sym c.next_field-2.ensures ∙ none_of c.next_field-2.result c.if-is_some.ensures) c.item_in-item.ensures c.count_in.ensures c.clear.ensures
+    whole_holds _ (stage_in c.count_in.new.self) _ _ _ _ c.in-Some.coming h (take c.min-used.result c.args.piece.now) c.add-2.new.self c.as_slice-3.result.now c.as_slice-4.result.now c.clear.new.self c.min-used.result c.item_in-item.result k c.as_slice-3.ensures c.as_slice-4.ensures (sym c.next_field-2.ensures ∙ none_of c.next_field-2.result c.if-is_some.ensures) (item_is _ _ _ c.item_in-item.ensures) c.count_in.ensures c.clear.ensures
 
 pub returns-clause-some : goal.returns-clause-some
 returns-clause-some c =
@@ -150,4 +151,4 @@ returns-clause-ok c =
     let h = c.self.invariant (ap (λ (r : Reading). r.refusal) c.self.view_is ∙ c.requires.open) in
     let u = uses _ _ _ _ _ h c.as_slice.result.now c.in-Some.coming c.args.piece.now c.width-width.result c.len.result c.min-used.result c.as_slice.ensures (sym c.in-Some.ensures) c.width-width.ensures c.len.ensures c.min-used.ensures in
     let k = passed _ _ _ _ _ h c.in-Some.coming c.args.piece.now _ _ _ c.add-2.new.self c.as_slice-2.result.now u c.if-used-lacking.false c.add-2.ensures c.as_slice-2.ensures (take_bytes c.min-used.result c.args.piece.now (λ i. (c.type_inv.piece i).fits)) (sym c.if-not-passes.ensures) in
-    whole_taken _ (stage_in c.count_in.new.self) _ _ _ _ c.self.inside.refusal c.in-Some.coming h (take c.min-used.result c.args.piece.now) c.add-2.new.self c.as_slice-3.result.now c.as_slice-4.result.now c.clear.new.self c.min-used.result c.item_in-item.result k u.count c.as_slice-3.ensures c.as_slice-4.ensures (sym c.next_field-2.ensures ∙ none_of c.next_field-2.result c.if-is_some.ensures) c.item_in-item.ensures c.count_in.ensures c.clear.ensures (ap (λ (r : Reading). r.refusal) c.self.view_is ∙ c.requires.open) bytes items (subst (λ (r : Reading). HasTaken r bytes items) (sym c.self.view_is) has)
+    whole_taken _ (stage_in c.count_in.new.self) _ _ _ _ c.self.inside.refusal c.in-Some.coming h (take c.min-used.result c.args.piece.now) c.add-2.new.self c.as_slice-3.result.now c.as_slice-4.result.now c.clear.new.self c.min-used.result c.item_in-item.result k u.count c.as_slice-3.ensures c.as_slice-4.ensures (sym c.next_field-2.ensures ∙ none_of c.next_field-2.result c.if-is_some.ensures) (item_is _ _ _ c.item_in-item.ensures) c.count_in.ensures c.clear.ensures (ap (λ (r : Reading). r.refusal) c.self.view_is ∙ c.requires.open) bytes items (subst (λ (r : Reading). HasTaken r bytes items) (sym c.self.view_is) has)
