@@ -9,18 +9,18 @@
 //! - `Text`: what a `printf` prints;
 //! - `Task`: what is left of a task's code, and what one step of it can come to;
 //! - `Copies`: the cells that a construct makes of its own;
-//! - `Coming`: what a step comes to, in the words of the forms;
+//! - `StepOutcomes`: what a step comes to, in the words of the forms;
 //! - `Statements`, `Calls`, `Constructs`: one definition for each form of statement and each stage of a construct;
 //! - `Step`: what a task does next: one line for each form;
-//! - `Standing`: which outcomes there are where an event or the end stands next;
+//! - `NextIsEvent`: which outcomes there are where an event or the end stands next;
 //! - `Upcoming`: what comes next by its form, and which regions are open;
-//! - `Known`: the traps and limits that a task's code can come to;
+//! - `TrapsAndLimits`: the traps and limits that a task's code can come to;
 //! - `Answers`: which answers are given to what a task asks, and `Asked`: how much there is of the work that asks;
-//! - `Going`: how it goes on after an answer or an event;
+//! - `AfterEvents`: how it goes on after an answer or an event;
 //! - `Begin`: how the code of main, of a member of a team and of an explicit task begins;
 //! - `Occurring`: of which item an event or a question is;
 //! - `Width`: how many names a task ever has in scope;
-//! - `Scoped`: that the names and functions that a task's code uses are in scope, and `Made`: that the cells that it uses were made;
+//! - `Scoped`: that the names and functions that a task's code uses are in scope, and `UsedCells`: that the cells that it uses were made;
 //! - `Formed`: which forms the nodes of a program's tree have.
 //!
 //! `docs/statements.md` tells the same in a page. `src/` has the types and numbers that the definitions share with the code. Nothing

@@ -6,7 +6,7 @@
 //!
 //! - `OwnPlaces`: that no two names that are declared or used, and no two constructs, stand at one place;
 //! - `Slotted`: where the statements that a task has left stand in the text, and that the slots in scope there are in the task's scope;
-//! - `Coming`: what the tasks of a run come to, and what it is that all that a task uses is there.
+//! - `CodesOfRun`: what the tasks of a run come to, and what it is that all that a task uses is there.
 //!
 //! Proved, by the contract of the function that is named:
 //!

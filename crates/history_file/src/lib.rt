@@ -7,7 +7,7 @@
 //! The definitions that are to be believed stand in `specs/`: `Fields` has the fields of a file with their bytes, `Validity` which files
 //! there are and what each is written as, and `Refusing` where bytes are refused, as a statement on all files that begin so. `Fitting`
 //! says what writing supposes of a file and what its types know of it, `Certificates` when a file is one, and `Verdicts` what a rerun says of
-//! it. `Paging`, `Reading`, `Coming` and `Progressing` serve the proofs.
+//! it. `Paging`, `Reading`, `RerunProgress` and `Progressing` serve the proofs.
 //!
 //! Proved by the contracts of the functions that are named:
 //!

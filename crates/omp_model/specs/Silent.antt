@@ -25,7 +25,8 @@ use Rattle.omp_model.specs.Gates.{is_owned}
 use Rattle.omp_model.specs.Changes.{gone_to, with_taken_share, with_team}
 
 -- What the team deals is given where it fits the work that asks: a chunk that has an iteration and lies within the loop, and a section that the
--- construct has. In runs of a program that breaks no rule it always fits, so nothing is counted as taken that isn't given.
+-- construct has. In runs of 1 to 16 threads of a program that breaks no rule, and
+-- whose tree has the shape of one that a text spells, it always fits, so nothing is counted as taken that isn't given.
 abbrev pub fits_loop : ℕ → ℕ × ℕ → Bool
 fits_loop count chunk = nat_lt 0 chunk.1 && nat_le (chunk.0 + chunk.1) count
 

@@ -7,13 +7,13 @@
 //! - `Gates`: what a thread comes to next, and whether it has to wait for it, with no expression evaluated;
 //! - `Changes`: the words of change, of which effects are made;
 //! - `Silent`: silent steps, and what the team and the locks answer to what a step asks;
-//! - `Going` and `Returning`: what happens at an event's Go, with the traps and limits that it meets, and at its callback's Back;
+//! - `EventEffects` and `Returning`: what happens at an event's Go, with the traps and limits that it meets, and at its callback's Back;
 //! - `Turn`: up to 64 silent steps and an event, and in what state a trap or a limit halts the run;
 //! - `Words`, `Frames`, `Snapshots`, `Calls`: what a tool hears of an event, and what it can inquire meanwhile;
 //! - `Legal`, `Cause`, `Heard`, `Records`: histories, why a run ends, and what is heard of it;
 //! - `Serial`, `Storing`, `Running`: the serial order;
 //! - `Empty`: the smallest program with its run;
-//! - `Made`, `Named`, `Conditions`: what a state names, and what a tool hears and inquires, was made, and how far its tasks have come;
+//! - `MadeWorld`, `Named`, `Conditions`: what a state names, and what a tool hears and inquires, was made, and how far its tasks have come.
 //!
 //! What one task's code does between events is `c_model`'s, what a team meets `team_parts`', tasks with their ready order `task_pool`'s, and locks
 //! `sync_objects`'.
@@ -22,8 +22,9 @@
 //! start, and nothing happens to what wasn't made. No run meets the first two, and what a run names was made: the laws below say so.
 //!
 //! What the team deals is given to the code only where it fits the work that asks. A member has code only where the end of the region that was forked
-//! stands first in its encountering task's code. And a `ParallelEnd` may name region 0, which is none. In runs of a program that breaks no rule all
-//! that is dealt fits, each member has its region's code, and each end names a region that was forked: `guard_laws` proves that.
+//! stands first in its encountering task's code. And a `ParallelEnd` may name region 0, which is none. In runs of 1 to 16 threads of a
+//! program that breaks no rule, and whose tree has the shape of one that a text spells, all that is dealt fits, each member has its region's code,
+//! and each end names a region that was forked: `guard_laws` proves that.
 //!
 //! Proved, by the contract of the function that is named:
 //!

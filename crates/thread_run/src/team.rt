@@ -82,7 +82,7 @@ fn finish<R: Threads, K: BookName, P: ToolPart>(rt: &R, slot: Slot<K, P>) -> (Pa
     }
 }
 
-/// Drives the drivers that the caller has, until the run is over. Where it has one alone, that is the first.
+/// Drives the drivers that the caller has, until the run is over. None of two may wait for the other, so they take turns.
 pub(crate) fn drive_here<R: Wait, K: BookName, P: ToolPart>(
     rt: &R,
     book: &SharedBook<K>,
@@ -91,15 +91,26 @@ pub(crate) fn drive_here<R: Wait, K: BookName, P: ToolPart>(
     ensures as_many { length slots.new ≡ length slots.old }
     ensures kept { AreKept (IsSlot P.stands_for P.same K.run) slots.old slots.new }
 {
-    if slots.is_empty() {
-        return;
-    }
     let here = slots.iter().filter(|slot| slot.driver.is_err()).count();
-    if here == 1 {
-        drive_slot(rt, book, &mut slots[0]);
-        return;
+    if here > 1 {
+        drive_in_turn(rt, book, slots);
+    } else {
+        drive_each(rt, book, slots);
     }
-    drive_in_turn(rt, book, slots);
+}
+
+/// Drives each driver that the caller has to its end, one after the other.
+fn drive_each<R: Wait, K: BookName, P: ToolPart>(
+    rt: &R,
+    book: &SharedBook<K>,
+    slots: &mut [Slot<K, P>],
+)
+    ensures as_many { length slots.new ≡ length slots.old }
+    ensures kept { AreKept (IsSlot P.stands_for P.same K.run) slots.old slots.new }
+{
+    for place in 0..slots.len() {
+        drive_slot(rt, book, &mut slots[place]);
+    }
 }
 
 /// Drives the driver, if the caller has it.

@@ -8,7 +8,7 @@
 //!
 //! [`generated_text`] is a program of a given length, and [`summary_text`] what is written of a run of it.
 //!
-//! Proved by the contracts of `impl ToolPart` of the three, over `KeeperFor` of `specs/Standing.antt`. A part stands for a record of its
+//! Proved by the contracts of `impl ToolPart` of the three, over `KeeperFor` of `specs/KeeperRelation.antt`. A part stands for a record of its
 //! calls exactly where
 //!
 //! - each `initialize` answered 1, and left the callbacks of the profile registered, [`PROFILE_MASK`](omp_codes::PROFILE_MASK): none
