@@ -24,7 +24,7 @@ pub(crate) trait Runner {
     /// Where runs take their memory.
     fn alloc(&self) -> Global;
 
-    /// Runs the job with the parts of this list, which it takes out of it. The guests of the report are these.
+    /// Runs the job with the parts that this list has. What the list holds afterwards is no clause. The guests of the report are these.
     fn run<P: Keeper>(
         &self,
         job: Job,
