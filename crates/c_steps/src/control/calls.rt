@@ -1,8 +1,7 @@
 //! Calls and returns, and the calls of lock routines.
 
-ghost use Rattle.std.specs.Prelude.{◌≡◌, ◌<◌, ◌+◌, length, IfSome, Some};
+ghost use Rattle.std.specs.Prelude.{◌≡◌, ◌<◌, ◌+◌, IfSome, Some};
 ghost use Rattle.c_syntax.specs.language.Tree.{kind_of, name_of};
-ghost use Rattle.c_syntax.specs.language.Numbered.{tree_at};
 ghost use Rattle.c_check.specs.Loops.{child_at};
 ghost use Rattle.c_model.specs.declared.limits.TheConstants.{LOCK_UNIT};
 ghost use Rattle.c_model.specs.Calls as calls;
@@ -11,12 +10,14 @@ ghost use Rattle.c_model.specs.Parts.{parts};
 ghost use Rattle.c_model.specs.Value.{all_values};
 ghost use Rattle.c_steps.specs.Arguments.{without_values};
 ghost use Rattle.c_steps.specs.ControlView.{env_at, here_at, next_of_call, scope_in};
+ghost use Rattle.c_steps.specs.Forms.{AdvancesBy, TellsBy};
 ghost use Rattle.c_steps.specs.Moves.{cells_given, closed, delivered, env_with, given_back, last_call};
+ghost use Rattle.c_steps.specs.NodeTrees.{tree_of};
 ghost use Rattle.c_steps.specs.Nodes.{IsPart, part_at};
 ghost use Rattle.c_steps.specs.Ready.{IsStepping};
 ghost use Rattle.c_steps.specs.Rooming.{IsEntry};
 ghost use Rattle.c_steps.specs.Views.{HasNumbers};
-ghost use Rattle.c_steps.specs.Steps.{Advances, CanStep, Tells};
+ghost use Rattle.c_steps.specs.Steps.{Advances, CanStep};
 ghost use Rattle.c_steps.specs.Trying.{IsAttempt};
 
 use crate::cells::Cells;
@@ -24,45 +25,30 @@ use crate::code::Code;
 use crate::control::Control;
 use crate::item::Item;
 use crate::next::{Next, Refusal, begun_call};
+use crate::node::Node;
 use crate::parts::part_count;
 use c_model::{CALL_LIMIT, CALLS, CELLS, Entry, LOCK_UNIT, MutexKind, Point, Target, View};
 use c_syntax::{LockCall, NodeKind};
 
 impl Control {
     /// A call that is a statement.
-    pub(super) fn begin_called(
-        &mut self,
-        code: &Code,
-        cells: &mut Cells,
-        view: View,
-        node: u32,
-    ) -> Next
-        requires ready { CanStep code.now view self.old }
-        requires node { node < length code.now.trees }
-        ensures { Advances code.now result self.old cells.old self.new cells.new
-            (calls.begin_called (here_at code.now view self.old cells.old) (tree_at code.now.trees node)) }
+    pub(super) fn begin_called(&mut self, cells: &mut Cells, view: View, node: Node) -> Next
+        requires { CanStep node.code.now view self.old }
+        ensures { AdvancesBy calls.begin_called node.entry view result self.old cells.old self.new cells.new }
     {
-        let call = code.child(Some(node), 0);
-        self.begin_right(code, cells, view, call, None, Target::Nowhere)
+        self.begin_right(node.code, cells, view, node.child(0), None, Target::Nowhere)
     }
 
     /// An assignment of a call: first the cell, and then the call.
-    pub(super) fn begin_set_call(
-        &mut self,
-        code: &Code,
-        cells: &mut Cells,
-        view: View,
-        node: u32,
-    ) -> Next
-        requires ready { CanStep code.now view self.old }
-        requires node { node < length code.now.trees }
-        ensures { Advances code.now result self.old cells.old self.new cells.new
-            (calls.begin_set_call (here_at code.now view self.old cells.old) (tree_at code.now.trees node)) }
+    pub(super) fn begin_set_call(&mut self, cells: &mut Cells, view: View, node: Node) -> Next
+        requires { CanStep node.code.now view self.old }
+        ensures { AdvancesBy calls.begin_set_call node.entry view result self.old cells.old self.new cells.new }
     {
-        match self.place_cell(code, cells, view, code.child(Some(node), 0)) {
+        let code = node.code;
+        match self.place_cell(code, cells, view, node.child(0)) {
             Err(trap) => Next::Trap(trap),
             Ok(cell) => {
-                let call = code.child(Some(node), 1);
+                let call = node.child(1);
                 self.begin_right(code, cells, view, call, None, Target::Cell(cell as u32))
             }
         }
@@ -72,36 +58,26 @@ impl Control {
     #[inline(never)]
     pub(super) fn begin_initialise(
         &mut self,
-        code: &Code,
         cells: &mut Cells,
         view: View,
-        node: u32,
+        node: Node,
         entry: Entry,
     ) -> Next
-        requires ready { CanStep code.now view self.old }
-        requires node { (node < length code.now.trees) × IsEntry entry }
-        ensures { Advances code.now result self.old cells.old self.new cells.new
-            (calls.begin_initialise (here_at code.now view self.old cells.old) (tree_at code.now.trees node) entry) }
+        requires ready { CanStep node.code.now view self.old }
+        requires entry { IsEntry entry }
+        ensures { AdvancesBy (λ here tree. calls.begin_initialise here tree entry)
+            node.entry view result self.old cells.old self.new cells.new }
     {
-        let call = code.child(Some(node), 0);
-        let to = Target::Cell(entry.first);
-        self.begin_right(code, cells, view, call, Some(entry), to)
+        let (call, to) = (node.child(0), Target::Cell(entry.first));
+        self.begin_right(node.code, cells, view, call, Some(entry), to)
     }
 
     /// `return`, of nothing, of a call, or of an expression.
-    pub(super) fn begin_return(
-        &mut self,
-        code: &Code,
-        cells: &mut Cells,
-        view: View,
-        node: u32,
-    ) -> Next
-        requires ready { CanStep code.now view self.old }
-        requires node { node < length code.now.trees }
-        ensures { Advances code.now result self.old cells.old self.new cells.new
-            (calls.begin_return (here_at code.now view self.old cells.old) (tree_at code.now.trees node)) }
+    pub(super) fn begin_return(&mut self, cells: &mut Cells, view: View, node: Node) -> Next
+        requires { CanStep node.code.now view self.old }
+        ensures { AdvancesBy calls.begin_return node.entry view result self.old cells.old self.new cells.new }
     {
-        let right = code.child(Some(node), 0);
+        let (code, right) = (node.code, node.child(0));
         match code.kind(right) {
             NodeKind::Call | NodeKind::TestLock => {
                 self.begin_right(code, cells, view, right, None, Target::Return)
@@ -129,60 +105,36 @@ impl Control {
             (calls.begin_right (kind_of (part_at code.now.trees call)) (here_at code.now view self.old cells.old)
             (part_at code.now.trees call) (env_with declared (env_at code.now self.old)) to) }
     {
-        match call {
-            Some(node) => match code.kind(call) {
-                NodeKind::TestLock => self.begin_test(code, cells, view, node, to),
-                _ => self.begin_call(code, cells, view, call, declared, to),
+        match code.kind(call) {
+            NodeKind::TestLock => match call {
+                Some(number) => self.begin_test(cells, view, Node { code, number }, to),
+                None => unreachable!(),
             },
-            None => self.begin_call(code, cells, view, call, declared, to),
+            _ => begun_call(self.start_call(code, cells, view, call, declared, to)),
         }
     }
 
     /// `omp_test_lock` begins with its event.
     #[inline(never)]
-    fn begin_test(&self, code: &Code, cells: &Cells, view: View, call: u32, to: Target) -> Next
-        requires { call < length code.now.trees }
-        ensures { Tells code.now result
-            (calls.begin_test (here_at code.now view self.now cells.now) (tree_at code.now.trees call) to) }
+    fn begin_test(&self, cells: &Cells, view: View, call: Node, to: Target) -> Next
+        ensures { TellsBy (λ here tree. calls.begin_test here tree to) call.entry view result self.now cells.now }
     {
         let point = Point::MutexAcquire {
-            codeptr: code.place(call),
-            wait_id: self.lock_id(code, call),
+            codeptr: call.place(),
+            wait_id: self.lock_id(call),
             kind: MutexKind::TestLock,
             to,
         };
-        Next::Event(point, call)
+        Next::Event(point, call.number)
     }
 
     /// The wait identifier of the lock that a call names.
-    fn lock_id(&self, code: &Code, call: u32) -> u32
-        requires { call < length code.now.trees }
-        ensures { result ≡ LOCK_UNIT + (entry_of (env_at code.now self.now)
-            (name_of (child_at (tree_at code.now.trees call) 0))).first }
+    fn lock_id(&self, call: Node) -> u32
+        ensures { result ≡ LOCK_UNIT + (entry_of (env_at call.entry.code.now self.now)
+            (name_of (child_at (tree_of call.entry) 0))).first }
     {
-        let name = code.name(code.child(Some(call), 0));
-        LOCK_UNIT + self.entry(code, name).first
-    }
-
-    /// The start of a call: its arguments, from left to right, and then the function's body stands next. A declarator's variable comes into scope
-    /// behind it.
-    #[inline(never)]
-    fn begin_call(
-        &mut self,
-        code: &Code,
-        cells: &mut Cells,
-        view: View,
-        call: Option<u32>,
-        declared: Option<Entry>,
-        to: Target,
-    ) -> Next
-        requires ready { CanStep code.now view self.old }
-        requires call { IsPart code.now.trees call × IfSome declared IsEntry }
-        ensures { Advances code.now result self.old cells.old self.new cells.new
-            (calls.begin_call (here_at code.now view self.old cells.old) (part_at code.now.trees call)
-            (env_with declared (env_at code.now self.old)) to) }
-    {
-        begun_call(self.start_call(code, cells, view, call, declared, to))
+        let name = call.code.name(call.child(0));
+        LOCK_UNIT + self.entry(call.code, name).first
     }
 
     /// A call whose value goes there is tried, if it isn't that of `omp_test_lock`.
@@ -208,7 +160,8 @@ impl Control {
         }
     }
 
-    /// A call starts, unless an argument traps or a limit would be passed.
+    /// The start of a call: its arguments, from left to right, and then the function's body stands next, unless an argument traps or a limit
+    /// would be passed. A declarator's variable comes into scope behind it.
     #[inline(never)]
     fn start_call(
         &mut self,
@@ -331,18 +284,14 @@ impl Control {
     #[inline(never)]
     pub(super) fn begin_lock_call(
         &self,
-        code: &Code,
         cells: &Cells,
         view: View,
         which: LockCall,
-        node: u32,
+        node: Node,
     ) -> Next
-        requires { node < length code.now.trees }
-        ensures { Tells code.now result
-            (calls.begin_lock_call which (here_at code.now view self.now cells.now) (tree_at code.now.trees node)) }
+        ensures { TellsBy (calls.begin_lock_call which) node.entry view result self.now cells.now }
     {
-        let codeptr = code.place(node);
-        let wait_id = self.lock_id(code, node);
+        let (codeptr, wait_id) = (node.place(), self.lock_id(node));
         let point = match which {
             LockCall::Init => Point::LockInit { codeptr, wait_id },
             LockCall::Destroy => Point::LockDestroy { codeptr, wait_id },
@@ -358,6 +307,6 @@ impl Control {
                 kind: MutexKind::Lock,
             },
         };
-        Next::Event(point, node)
+        Next::Event(point, node.number)
     }
 }

@@ -1,19 +1,20 @@
 //! Statements that evaluate expressions, made where no expression has a trap.
 
-ghost use Rattle.std.specs.Prelude.{◌≡◌, ◌<◌, length, if◌then◌else◌, Ok, pos, IfSome};
+ghost use Rattle.std.specs.Prelude.{◌≡◌, if◌then◌else◌, Ok, pos, IfSome};
 ghost use Rattle.c_syntax.specs.language.Tree.{kind_of};
-ghost use Rattle.c_syntax.specs.language.Numbered.{tree_at};
 ghost use Rattle.c_check.specs.Loops.{child_at};
 ghost use Rattle.c_model.specs.Calls as calls;
 ghost use Rattle.c_model.specs.Parts.{has_child};
 ghost use Rattle.c_model.specs.Statements as statements;
 ghost use Rattle.c_model.specs.Value as values;
 ghost use Rattle.c_steps.specs.ControlView.{here_at, scope_in};
+ghost use Rattle.c_steps.specs.Forms.{AttemptsBy};
 ghost use Rattle.c_steps.specs.Items.{with_file};
+ghost use Rattle.c_steps.specs.NodeTrees.{tree_of};
 ghost use Rattle.c_steps.specs.Nodes.{IsPart, part_at};
 ghost use Rattle.c_steps.specs.Scopes.{scope_of};
 ghost use Rattle.c_steps.specs.Steps.{CanStep};
-ghost use Rattle.c_steps.specs.Trying.{IsAssignment, IsAttempt, IsChange};
+ghost use Rattle.c_steps.specs.Trying.{IsAssignment, IsChange};
 ghost use Rattle.c_steps.specs.Views.{HasNumbers};
 
 use crate::cells::Cells;
@@ -24,6 +25,7 @@ use crate::control::steps::setting_of;
 use crate::evaluate::number_in;
 use crate::item::Item;
 use crate::next::is_quiet;
+use crate::node::Node;
 use crate::numbers::binary_result;
 use crate::scope::Scope;
 use c_model::{Target, View};
@@ -39,19 +41,11 @@ pub(crate) struct Change {
 impl Control {
     /// A step that is a statement.
     #[inline(always)]
-    pub(super) fn try_change(
-        &mut self,
-        code: &Code,
-        cells: &mut Cells,
-        view: View,
-        node: u32,
-    ) -> bool
-        requires ready { CanStep code.now view self.old }
-        requires node { node < length code.now.trees }
-        ensures { IsAttempt code.now result self.old cells.old self.new cells.new
-            (statements.begin_step (here_at code.now view self.old cells.old) (tree_at code.now.trees node)) }
+    pub(super) fn try_change(&mut self, cells: &mut Cells, view: View, node: Node) -> bool
+        requires { CanStep node.code.now view self.old }
+        ensures { AttemptsBy statements.begin_step node.entry view result self.old cells.old self.new cells.new }
     {
-        match self.change(code, cells, view, code.child(Some(node), 0)) {
+        match self.change(node.code, cells, view, node.child(0)) {
             Some(change) => {
                 self.step();
                 cells.set(change.cell, change.number);
@@ -66,20 +60,18 @@ impl Control {
     #[inline(always)]
     pub(super) fn try_third(
         &mut self,
-        code: &Code,
         cells: &mut Cells,
         view: View,
-        node: u32,
+        node: Node,
         names: usize,
     ) -> bool
-        requires ready { CanStep code.now view self.old }
-        requires node { node < length code.now.trees }
-        ensures { IsAttempt code.now result self.old cells.old self.new cells.new
-            (statements.third_for (here_at code.now view self.old cells.old) (tree_at code.now.trees node)
-            (with_file code.now names)) }
+        requires { CanStep node.code.now view self.old }
+        ensures { AttemptsBy (λ here tree. statements.third_for here tree (with_file node.entry.code.now names))
+            node.entry view result self.old cells.old self.new cells.new }
     {
-        match self.change(code, cells, view, code.child(Some(node), 2)) {
+        match self.change(node.code, cells, view, node.child(2)) {
             Some(change) => {
+                let node = node.number;
                 self.step();
                 self.then(Item::Test { node, names });
                 cells.set(change.cell, change.number);
@@ -92,16 +84,13 @@ impl Control {
     /// `if`: the branch that is taken stands next.
     #[tactic(auto, using(crate::proofs::Stepping::items_if_cases))]
     #[inline(always)]
-    pub(super) fn try_if(&mut self, code: &Code, cells: &Cells, view: View, node: u32) -> bool
-        requires ready { CanStep code.now view self.old }
-        requires node { node < length code.now.trees }
-        ensures { IsAttempt code.now result self.old cells.now self.new cells.now
-            (statements.begin_if (here_at code.now view self.old cells.now) (tree_at code.now.trees node)) }
+    pub(super) fn try_if(&mut self, cells: &Cells, view: View, node: Node) -> bool
+        requires { CanStep node.code.now view self.old }
+        ensures { AttemptsBy statements.begin_if node.entry view result self.old cells.now self.new cells.now }
     {
-        let condition = code.child(Some(node), 0);
-        match self.quick_value(code, cells, view, condition) {
+        match self.quick_value(node.code, cells, view, node.child(0)) {
             Some(number) => {
-                let branch = branch_taken(code, node, number);
+                let branch = branch_taken(node, number);
                 self.step();
                 self.then_if(branch);
                 true
@@ -113,23 +102,20 @@ impl Control {
     /// `while`: the statement stands next, and then the loop again, or nothing.
     #[tactic(auto, unfolding(crate::specs::Items::todo_at, crate::specs::Items::calls_at))]
     #[inline(always)]
-    pub(super) fn try_while(&mut self, code: &Code, cells: &Cells, view: View, node: u32) -> bool
-        requires ready { CanStep code.now view self.old }
-        requires node { node < length code.now.trees }
-        ensures { IsAttempt code.now result self.old cells.now self.new cells.now
-            (statements.begin_while (here_at code.now view self.old cells.now) (tree_at code.now.trees node)) }
+    pub(super) fn try_while(&mut self, cells: &Cells, view: View, node: Node) -> bool
+        requires { CanStep node.code.now view self.old }
+        ensures { AttemptsBy statements.begin_while node.entry view result self.old cells.now self.new cells.now }
     {
-        let condition = code.child(Some(node), 0);
-        match self.quick_value(code, cells, view, condition) {
+        match self.quick_value(node.code, cells, view, node.child(0)) {
             None => false,
             Some(0) => {
                 self.step();
                 true
             }
             Some(_) => {
-                let statement = code.child(Some(node), 1);
+                let statement = node.child(1);
                 self.step();
-                self.then(Item::Start(Some(node)));
+                self.then(Item::Start(Some(node.number)));
                 self.then(Item::Start(statement));
                 true
             }
@@ -139,21 +125,12 @@ impl Control {
     /// The test of a plain `for`. Where it is 0 so many names stay in scope.
     #[tactic(auto, using(crate::proofs::Frames::cut_cases), unfolding(crate::specs::Items::todo_at, crate::specs::Items::calls_at))]
     #[inline(always)]
-    pub(super) fn try_test(
-        &mut self,
-        code: &Code,
-        cells: &Cells,
-        view: View,
-        node: u32,
-        names: usize,
-    ) -> bool
-        requires ready { CanStep code.now view self.old }
-        requires node { node < length code.now.trees }
-        ensures { IsAttempt code.now result self.old cells.now self.new cells.now
-            (statements.test_for (here_at code.now view self.old cells.now) (tree_at code.now.trees node)
-            (with_file code.now names)) }
+    pub(super) fn try_test(&mut self, cells: &Cells, view: View, node: Node, names: usize) -> bool
+        requires { CanStep node.code.now view self.old }
+        ensures { AttemptsBy (λ here tree. statements.test_for here tree (with_file node.entry.code.now names))
+            node.entry view result self.old cells.now self.new cells.now }
     {
-        match self.quick_test(code, cells, view, node) {
+        match self.quick_test(cells, view, node) {
             None => false,
             Some(0) => {
                 self.step();
@@ -161,7 +138,7 @@ impl Control {
                 true
             }
             Some(_) => {
-                let statement = code.child(Some(node), 3);
+                let (node, statement) = (node.number, node.child(3));
                 self.step();
                 self.then(Item::Third { node, names });
                 self.then(Item::Start(statement));
@@ -173,19 +150,11 @@ impl Control {
     /// `return`, of nothing, of a call, or of an expression.
     #[tactic(auto, using(crate::proofs::Trying::attempt_of))]
     #[inline(always)]
-    pub(super) fn try_return(
-        &mut self,
-        code: &Code,
-        cells: &mut Cells,
-        view: View,
-        node: u32,
-    ) -> bool
-        requires ready { CanStep code.now view self.old }
-        requires node { node < length code.now.trees }
-        ensures { IsAttempt code.now result self.old cells.old self.new cells.new
-            (calls.begin_return (here_at code.now view self.old cells.old) (tree_at code.now.trees node)) }
+    pub(super) fn try_return(&mut self, cells: &mut Cells, view: View, node: Node) -> bool
+        requires { CanStep node.code.now view self.old }
+        ensures { AttemptsBy calls.begin_return node.entry view result self.old cells.old self.new cells.new }
     {
-        let right = code.child(Some(node), 0);
+        let (code, right) = (node.code, node.child(0));
         match code.kind(right) {
             NodeKind::Call | NodeKind::TestLock => {
                 self.try_call(code, cells, view, right, Target::Return)
@@ -199,16 +168,14 @@ impl Control {
 
     /// The number of the test of a plain `for`, 1 where it has none, if it has no trap.
     #[inline(always)]
-    fn quick_test(&self, code: &Code, cells: &Cells, view: View, node: u32) -> Option<i32>
-        requires node { node < length code.now.trees }
-        requires view { HasNumbers view }
-        ensures { IfSome result (λ number.
-            (if has_child (tree_at code.now.trees node) 1
-            then values.value (scope_in code.now view self.now cells.now) (child_at (tree_at code.now.trees node) 1)
+    fn quick_test(&self, cells: &Cells, view: View, node: Node) -> Option<i32>
+        requires { HasNumbers view }
+        ensures { IfSome result (λ number. (if has_child (tree_of node.entry) 1
+            then values.value (scope_in node.entry.code.now view self.now cells.now) (child_at (tree_of node.entry) 1)
             else Ok (pos 1)) ≡ Ok number) }
     {
-        match code.child(Some(node), 1) {
-            Some(test) => self.quick_value(code, cells, view, Some(test)),
+        match node.child(1) {
+            Some(test) => self.quick_value(node.code, cells, view, Some(test)),
             None => Some(1),
         }
     }

@@ -1,12 +1,12 @@
 //! Assignments, `++` and `--`.
 
-ghost use Rattle.std.specs.Prelude.{◌≡◌, ◌<◌, length, Ok, IfSome};
+ghost use Rattle.std.specs.Prelude.{◌≡◌, Ok, IfSome};
 ghost use Rattle.c_syntax.specs.language.Tree.{kind_of};
-ghost use Rattle.c_syntax.specs.language.Numbered.{tree_at};
 ghost use Rattle.c_model.specs.StepOutcomes.{sets, with_result};
 ghost use Rattle.c_model.specs.Statements as statements;
 ghost use Rattle.c_model.specs.Value.{binary_value};
 ghost use Rattle.c_steps.specs.ControlView.{here_at, next_of};
+ghost use Rattle.c_steps.specs.Forms.{AdvancesBy};
 ghost use Rattle.c_steps.specs.Items.{items_if};
 ghost use Rattle.c_steps.specs.Nodes.{IsPart, part_at};
 ghost use Rattle.c_steps.specs.Ready.{IsItem, IsStepping};
@@ -16,26 +16,19 @@ use crate::cells::Cells;
 use crate::code::Code;
 use crate::control::Control;
 use crate::item::Item;
+use crate::node::Node;
 use crate::numbers::{binary_result, deciding_value};
 use c_model::View;
 use c_syntax::{BinaryOp, Bump, NodeKind, Setting};
 
 impl Control {
     /// A step that is a statement.
-    pub(super) fn begin_step(
-        &mut self,
-        code: &Code,
-        cells: &mut Cells,
-        view: View,
-        node: u32,
-    ) -> Result<(), u8>
-        requires ready { CanStep code.now view self.old }
-        requires node { node < length code.now.trees }
-        ensures { Advances code.now (next_of result) self.old cells.old self.new cells.new
-            (statements.begin_step (here_at code.now view self.old cells.old) (tree_at code.now.trees node)) }
+    pub(super) fn begin_step(&mut self, cells: &mut Cells, view: View, node: Node) -> Result<(), u8>
+        requires { CanStep node.code.now view self.old }
+        ensures { AdvancesBy statements.begin_step node.entry view
+            (next_of result) self.old cells.old self.new cells.new }
     {
-        let step = code.child(Some(node), 0);
-        self.make_step(code, cells, view, step, None)
+        self.make_step(node.code, cells, view, node.child(0), None)
     }
 
     /// A step that is a statement, or the third part of a loop, behind which an item may stand next.

@@ -1,12 +1,12 @@
 //! A silent step of C's own statements, made without a look at what else may stand next.
 
-ghost use Rattle.std.specs.Prelude.{◌≡◌, ◌<◌, ◌≤◌, length, slice_get, slice_set, IfSome, Some};
+ghost use Rattle.std.specs.Prelude.{◌≡◌, ◌<◌, ◌≤◌, slice_get, slice_set, IfSome, Some};
 ghost use Rattle.c_syntax.specs.language.Tree.{kind_of};
-ghost use Rattle.c_syntax.specs.language.Numbered.{tree_at};
 ghost use Rattle.c_model.specs.Calls as calls;
 ghost use Rattle.c_model.specs.Statements as statements;
 ghost use Rattle.c_model.specs.Step.{begin_statement, step_of};
 ghost use Rattle.c_steps.specs.ControlView.{here_at, task_at};
+ghost use Rattle.c_steps.specs.Forms.{AttemptsBy};
 ghost use Rattle.c_steps.specs.Items.{item_at};
 ghost use Rattle.c_steps.specs.OfProgram.{IsMadeFor};
 ghost use Rattle.c_steps.specs.Ready.{AreFrames, IsFront, IsItem, IsStepping};
@@ -23,6 +23,7 @@ use crate::control::Control;
 use crate::frame::Frame;
 use crate::item::Item;
 use crate::next::is_quiet;
+use crate::node::Node;
 use crate::plain::{Part, Plain, plain_item, shown_part};
 use c_model::{Target, View};
 use c_syntax::NodeKind;
@@ -149,11 +150,15 @@ impl Control {
             (step_of (item_at code.now (item_of plain)) (here_at code.now view self.old cells.old)) }
     {
         match plain {
-            Plain::Start(node) => self.try_statement(code, cells, view, node),
-            Plain::Declare(node) => is_quiet(self.declare(code, cells, view, node)),
+            Plain::Start(number) => self.try_statement(cells, view, Node { code, number }),
+            Plain::Declare(number) => is_quiet(self.declare(cells, view, Node { code, number })),
             Plain::Leave(names) => is_quiet(self.leave_block(code, cells, view, names)),
-            Plain::Test { node, names } => self.try_test(code, cells, view, node, names),
-            Plain::Third { node, names } => self.try_third(code, cells, view, node, names),
+            Plain::Test { node, names } => {
+                self.try_test(cells, view, Node { code, number: node }, names)
+            }
+            Plain::Third { node, names } => {
+                self.try_third(cells, view, Node { code, number: node }, names)
+            }
             Plain::Return(number) => is_quiet(self.returns(code, cells, view, number)),
             Plain::FallOff => is_quiet(self.returns(code, cells, view, 0)),
         }
@@ -162,23 +167,21 @@ impl Control {
     /// The step of a statement: one line for each form of C's own.
     #[tactic(auto, using(crate::proofs::Trying::attempt_of))]
     #[inline(always)]
-    fn try_statement(&mut self, code: &Code, cells: &mut Cells, view: View, node: u32) -> bool
-        requires ready { CanStep code.now view self.old }
-        requires node { node < length code.now.trees }
-        ensures { IsAttempt code.now result self.old cells.old self.new cells.new
-            (begin_statement (kind_of (tree_at code.now.trees node)) (here_at code.now view self.old cells.old)
-            (tree_at code.now.trees node)) }
+    fn try_statement(&mut self, cells: &mut Cells, view: View, node: Node) -> bool
+        requires { CanStep node.code.now view self.old }
+        ensures { AttemptsBy (λ here tree. begin_statement (kind_of tree) here tree)
+            node.entry view result self.old cells.old self.new cells.new }
     {
-        match code.kind(Some(node)) {
-            NodeKind::Block => is_quiet(self.begin_block(code, cells, view, node)),
-            NodeKind::If => self.try_if(code, cells, view, node),
-            NodeKind::While => self.try_while(code, cells, view, node),
-            NodeKind::For => self.try_for(code, cells, view, node),
-            NodeKind::Return => self.try_return(code, cells, view, node),
-            NodeKind::SetCall => self.try_set_call(code, cells, view, node),
-            NodeKind::Step => self.try_change(code, cells, view, node),
-            NodeKind::Called => self.try_called(code, cells, view, node),
-            NodeKind::Empty => self.try_empty(code, cells, view),
+        match node.kind() {
+            NodeKind::Block => is_quiet(self.begin_block(cells, view, node)),
+            NodeKind::If => self.try_if(cells, view, node),
+            NodeKind::While => self.try_while(cells, view, node),
+            NodeKind::For => self.try_for(cells, view, node),
+            NodeKind::Return => self.try_return(cells, view, node),
+            NodeKind::SetCall => self.try_set_call(cells, view, node),
+            NodeKind::Step => self.try_change(cells, view, node),
+            NodeKind::Called => self.try_called(cells, view, node),
+            NodeKind::Empty => self.try_empty(node.code, cells, view),
             _ => false,
         }
     }
@@ -186,28 +189,24 @@ impl Control {
     /// A plain `for` begins.
     #[tactic(auto, using(crate::proofs::Trying::attempt_of))]
     #[inline(never)]
-    fn try_for(&mut self, code: &Code, cells: &mut Cells, view: View, node: u32) -> bool
-        requires ready { CanStep code.now view self.old }
-        requires node { node < length code.now.trees }
-        ensures { IsAttempt code.now result self.old cells.old self.new cells.new
-            (statements.begin_for (here_at code.now view self.old cells.old) (tree_at code.now.trees node)) }
+    fn try_for(&mut self, cells: &mut Cells, view: View, node: Node) -> bool
+        requires { CanStep node.code.now view self.old }
+        ensures { AttemptsBy statements.begin_for node.entry view result self.old cells.old self.new cells.new }
     {
-        let next = self.begin_for(code, cells, view, node);
+        let next = self.begin_for(cells, view, node);
         is_quiet(next)
     }
 
     /// An assignment of a call: first the cell, and then the call.
     #[inline(always)]
-    fn try_set_call(&mut self, code: &Code, cells: &mut Cells, view: View, node: u32) -> bool
-        requires ready { CanStep code.now view self.old }
-        requires node { node < length code.now.trees }
-        ensures { IsAttempt code.now result self.old cells.old self.new cells.new
-            (calls.begin_set_call (here_at code.now view self.old cells.old) (tree_at code.now.trees node)) }
+    fn try_set_call(&mut self, cells: &mut Cells, view: View, node: Node) -> bool
+        requires { CanStep node.code.now view self.old }
+        ensures { AttemptsBy calls.begin_set_call node.entry view result self.old cells.old self.new cells.new }
     {
-        match self.place_cell(code, cells, view, code.child(Some(node), 0)) {
+        match self.place_cell(node.code, cells, view, node.child(0)) {
             Ok(cell) => {
-                let call = code.child(Some(node), 1);
-                self.try_call(code, cells, view, call, Target::Cell(cell as u32))
+                let call = node.child(1);
+                self.try_call(node.code, cells, view, call, Target::Cell(cell as u32))
             }
             Err(_) => false,
         }
@@ -215,14 +214,11 @@ impl Control {
 
     /// A call that is a statement.
     #[inline(always)]
-    fn try_called(&mut self, code: &Code, cells: &mut Cells, view: View, node: u32) -> bool
-        requires ready { CanStep code.now view self.old }
-        requires node { node < length code.now.trees }
-        ensures { IsAttempt code.now result self.old cells.old self.new cells.new
-            (calls.begin_called (here_at code.now view self.old cells.old) (tree_at code.now.trees node)) }
+    fn try_called(&mut self, cells: &mut Cells, view: View, node: Node) -> bool
+        requires { CanStep node.code.now view self.old }
+        ensures { AttemptsBy calls.begin_called node.entry view result self.old cells.old self.new cells.new }
     {
-        let call = code.child(Some(node), 0);
-        self.try_call(code, cells, view, call, Target::Nowhere)
+        self.try_call(node.code, cells, view, node.child(0), Target::Nowhere)
     }
 
     /// A statement that does nothing.
