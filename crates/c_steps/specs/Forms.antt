@@ -5,11 +5,12 @@ use Rattle.c_check.specs.Seen.{slot_of_name}
 use Rattle.c_model.specs.declared.view.View.{View}
 use Rattle.c_model.specs.Cells.{Bound, with_cells}
 use Rattle.c_model.specs.StepOutcomes.{bound_of}
-use Rattle.c_model.specs.Task.{Outcome, StepStart, Store}
+use Rattle.c_model.specs.Task.{Item, Outcome, StepStart, Store}
 use Rattle.c_steps.specs.declared.next.Next.{Next}
 use Rattle.c_steps.specs.declared.node.Node.{Node}
-use Rattle.c_steps.specs.ControlView.{ControlView, here_at}
+use Rattle.c_steps.specs.ControlView.{ControlView, env_at, here_at}
 use Rattle.c_steps.specs.NodeTrees.{tree_of}
+use Rattle.c_steps.specs.Passing.{IsPassed}
 use Rattle.c_steps.specs.Steps.{Advances, Tells}
 use Rattle.c_steps.specs.Trying.{IsAttempt}
 
@@ -33,3 +34,7 @@ AttemptsBy form node view result old before new after =
 -- the names and cells with a declarator's, whose cells hold these numbers
 abbrev pub named_cells : StepStart → Tree → List ℤ → Bound
 named_cells here tree numbers = with_cells (bound_of here) (name_of tree) (slot_of_name here.program tree) numbers
+
+-- an event was passed: these items of its construct stand in its place, and the names in scope are as they were
+abbrev pub IsPassedBy : (Tree → List Item) → Node → ControlView → ControlView → Type 0
+IsPassedBy items node old new = IsPassed node.code.now old new (items (tree_of node)) (env_at node.code.now old)

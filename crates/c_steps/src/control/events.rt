@@ -23,7 +23,7 @@ ghost use Rattle.c_steps.specs.Views.{HasNumbers};
 ghost use Rattle.c_steps.specs.Steps.{CanStep, Tells};
 
 use crate::cells::Cells;
-use crate::clauses::{condition, requested_threads, schedule, section_count};
+use crate::clauses::{Expression, clause_expression, schedule, section_count};
 use crate::control::Control;
 use crate::item::Loop;
 use crate::loops::{LoopNodes, iteration_count, loop_nodes};
@@ -78,7 +78,7 @@ impl Control {
         requires { HasNumbers view }
         ensures { TellsBy constructs.begin_parallel node.entry view result self.now cells.now }
     {
-        match requested_threads(node.code, node.number) {
+        match clause_expression(node, Expression::NumThreads) {
             None => fork(node, view.max as i32),
             Some(expression) => match self.value(node.code, cells, view, expression) {
                 Err(trap) => Next::Trap(trap),
@@ -92,7 +92,7 @@ impl Control {
         requires { HasNumbers view }
         ensures { TellsBy constructs.begin_task node.entry view result self.now cells.now }
     {
-        match condition(node.code, node.number) {
+        match clause_expression(node, Expression::If) {
             None => self.create(cells, view, node, 1),
             Some(expression) => match self.value(node.code, cells, view, expression) {
                 Err(trap) => Next::Trap(trap),
@@ -122,7 +122,7 @@ impl Control {
         requires { HasNumbers view }
         ensures { TellsBy constructs.begin_loop node.entry view result self.now cells.now }
     {
-        let parts = loop_nodes(node.code, node.number);
+        let parts = loop_nodes(node);
         match self.value(node.code, cells, view, parts.start) {
             Err(trap) => Next::Trap(trap),
             Ok(start) => match self.value(node.code, cells, view, parts.end) {
@@ -148,7 +148,7 @@ fn share_loop(node: Node, parts: LoopNodes, start: i32, end: i32) -> Next
     ensures { TellsOf (λ tree. constructs.loop_work tree start end) node.entry result }
 {
     let count = iteration_count(parts.comparison, start, end, parts.step);
-    let work = loop_work(start, count, parts.step, schedule(node.code, node.number));
+    let work = loop_work(start, count, parts.step, schedule(node));
     let codeptr = node.place();
     Next::Event(Point::WorkBegin { codeptr, work }, node.number)
 }
@@ -169,7 +169,7 @@ fn loop_work(start: i32, count: u64, step: i32, schedule: Schedule) -> Work
 pub(super) fn begin_sections(node: Node) -> Next
     ensures { TellsOf constructs.begin_sections node.entry result }
 {
-    let work = Work::Sections(section_count(node.code, node.number));
+    let work = Work::Sections(section_count(node));
     let codeptr = node.place();
     Next::Event(Point::WorkBegin { codeptr, work }, node.number)
 }

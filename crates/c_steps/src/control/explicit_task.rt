@@ -37,9 +37,10 @@ impl Control {
         let Some(number) = created_node(self.front(code, MEMBER_0)) else {
             return;
         };
-        let part = statement(code, number);
+        let node = Node { code, number };
+        let part = statement(node);
         into.inherit(self.own_entries());
-        into.make_task_cells(cells, Node { code, number });
+        into.make_task_cells(cells, node);
         into.then(Item::Start(part));
     }
 }

@@ -50,11 +50,10 @@ impl Control {
         ensures { let program = node.entry.code.now in result ≡ not (has_too_many
             (with_own_cells program (bound_in program self.now cells.now) (tree_of node.entry)).cells) }
     {
-        let (code, node) = (node.code, node.number);
-        let scope = self.scope(code, cells.items(), view);
-        match room_behind_listed(code, &scope, node, cells.room()) {
+        let scope = self.scope(node.code, cells.items(), view);
+        match room_behind_listed(&scope, node, cells.room()) {
             None => false,
-            Some(room) => room > 0 || !is_loop(code, node),
+            Some(room) => room > 0 || !is_loop(node),
         }
     }
 
@@ -65,12 +64,11 @@ impl Control {
         ensures { let program = node.entry.code.now in result ≡ not (has_too_many
             (with_task_cells program (bound_in program self.now cells.now) (tree_of node.entry)).cells) }
     {
-        let (code, node) = (node.code, node.number);
-        let scope = self.scope(code, cells.items(), view);
-        match room_behind_listed(code, &scope, node, cells.room()) {
+        let scope = self.scope(node.code, cells.items(), view);
+        match room_behind_listed(&scope, node, cells.room()) {
             None => false,
             Some(room) => {
-                let slots = code.program().task_copies(node);
+                let slots = node.code.program().task_copies(node.number);
                 room_behind_slots(&scope, slots, room).is_some()
             }
         }
@@ -89,7 +87,7 @@ impl Control {
     {
         let names = self.names.len();
         self.make_listed(cells, node);
-        if is_loop(node.code, node.number) {
+        if is_loop(node) {
             self.make_loop_variable(cells, names, node);
         }
     }
@@ -106,7 +104,7 @@ impl Control {
     {
         let (names, count) = (self.names.len(), cells.count());
         let mut place = first_listed();
-        while let Some(found) = next_listed(node.code, node.number, place) {
+        while let Some(found) = next_listed(node, place) {
             self.make_named(node.code, cells, names, count, found.listed);
             place = found.next;
         }
@@ -209,8 +207,7 @@ impl Control {
             (tree_of node.entry)) (pos 0 ∷ [])) self.old }
         ensures cells { cells.new ≡ with_numbers (pos 0 ∷ []) cells.old }
     {
-        let code = node.code;
-        let variable = loop_variable(code, node.number);
+        let (code, variable) = (node.code, loop_variable(node));
         let entry = Entry {
             name: code.name(variable),
             first: cells.count() as u32,
