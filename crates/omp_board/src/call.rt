@@ -69,6 +69,7 @@ pub fn call_of(board: &Board, thread: u8, event: Event) -> Call
             wait_id,
             codeptr,
         } => mutex_acquired(kind, wait_id, codeptr),
+        Event::Flush { codeptr } => flush_call(board, thread, codeptr),
         Event::MutexReleased {
             kind,
             wait_id,
@@ -286,6 +287,16 @@ fn mutex_acquired(kind: MutexKind, wait_id: u32, codeptr: u64) -> Call
     }
 }
 
+/// The thread flushes.
+fn flush_call(board: &Board, thread: u8, codeptr: u64) -> Call
+    ensures { result ≡ calls.flush_call board.now.world thread codeptr }
+{
+    Call::Flush {
+        thread: board.thread_word(thread),
+        codeptr,
+    }
+}
+
 /// It is given back.
 fn mutex_released(kind: MutexKind, wait_id: u32, codeptr: u64) -> Call
     ensures { result ≡ call.MutexReleased (calls.mutex_number kind) wait_id codeptr }
@@ -381,6 +392,7 @@ fn dispatch_call(board: &Board, thread: u8, share: Share) -> Call
             start: codeptr,
             iterations: 0,
         },
+        Share::Flush(codeptr) => flush_call(board, thread, codeptr),
     }
 }
 
@@ -412,6 +424,7 @@ pub fn callback_of(event: Event) -> u32
         } => callbacks::SYNC_REGION_WAIT,
         Event::MutexAcquire { .. } => callbacks::MUTEX_ACQUIRE,
         Event::MutexAcquired { .. } => callbacks::MUTEX_ACQUIRED,
+        Event::Flush { .. } => callbacks::FLUSH,
         Event::MutexReleased { .. } => callbacks::MUTEX_RELEASED,
         Event::LockInit { .. } => callbacks::LOCK_INIT,
         Event::LockDestroy { .. } => callbacks::LOCK_DESTROY,

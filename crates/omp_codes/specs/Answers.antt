@@ -9,11 +9,11 @@ within first last number = nat_le first number && nat_le number last
 
 -- these are called at each of their events. Those of devices have none in a program that runs here
 abbrev pub is_always : ℕ → Bool
-is_always number = within 1 17 number || within 20 27 number || within 32 36 number
+is_always number = within 1 17 number || within 20 27 number || within 29 29 number || within 32 36 number
 
--- these are callbacks, and are never called: dependences, nested locks, flush, cancel, reduction, error
+-- these are callbacks, and are never called: dependences, nested locks, cancel, reduction, error
 abbrev pub is_never : ℕ → Bool
-is_never number = within 18 19 number || within 28 31 number || within 37 37 number
+is_never number = within 18 19 number || within 28 28 number || within 30 31 number || within 37 37 number
 
 -- `ompt_set_always`, `ompt_set_never`, and `ompt_set_error` for what is no callback
 abbrev pub answer_of : ℕ → ℕ
@@ -21,7 +21,7 @@ answer_of number = if is_always number then ALWAYS else if is_never number then 
 
 -- the callbacks whose events a program may have
 abbrev pub in_profile : ℕ → Bool
-in_profile number = within 1 7 number || within 16 17 number || within 20 21 number || within 23 27 number || within 32 32 number
+in_profile number = within 1 7 number || within 16 17 number || within 20 21 number || within 23 27 number || within 29 29 number || within 32 32 number
 
 -- .. by rising numbers
 abbrev pub profile : List ℕ
@@ -51,5 +51,6 @@ callback_name number =
     else if number == 25 then codes "lock_destroy"
     else if number == 26 then codes "mutex_acquire"
     else if number == 27 then codes "mutex_acquired"
+    else if number == 29 then codes "flush"
     else if number == 32 then codes "dispatch"
     else []

@@ -54,11 +54,14 @@ pub const MUTEX_ACQUIRE: u32 = 26;
 /// `ompt_callback_mutex_acquired`.
 pub const MUTEX_ACQUIRED: u32 = 27;
 
+/// `ompt_callback_flush`.
+pub const FLUSH: u32 = 29;
+
 /// `ompt_callback_dispatch`.
 pub const DISPATCH: u32 = 32;
 
 /// How many callbacks the profile has.
-pub const COUNT: usize = 17;
+pub const COUNT: usize = 18;
 
 /// The callbacks of the profile, by rising numbers.
 pub const PROFILE: [u32; COUNT] = [
@@ -78,11 +81,12 @@ pub const PROFILE: [u32; COUNT] = [
     LOCK_DESTROY,
     MUTEX_ACQUIRE,
     MUTEX_ACQUIRED,
+    FLUSH,
     DISPATCH,
 ];
 
 /// The mask of the profile: bit n for number n.
-pub const PROFILE_MASK: u64 = 0x1_0FB3_00FE;
+pub const PROFILE_MASK: u64 = 0x1_2FB3_00FE;
 
 /// Whether a program may have events of the callback with this number.
 pub fn is_profile(number: u32) -> bool
@@ -106,6 +110,7 @@ pub fn is_profile(number: u32) -> bool
             | LOCK_DESTROY
             | MUTEX_ACQUIRE
             | MUTEX_ACQUIRED
+            | FLUSH
             | DISPATCH
     )
 }
@@ -133,6 +138,7 @@ pub fn name(number: u32) -> &'static str
         LOCK_DESTROY => "lock_destroy",
         MUTEX_ACQUIRE => "mutex_acquire",
         MUTEX_ACQUIRED => "mutex_acquired",
+        FLUSH => "flush",
         DISPATCH => "dispatch",
         _ => "",
     }
@@ -166,6 +172,7 @@ pub fn callbacks_have_their_numbers()
     ensures lock_destroy { callbacks.LOCK_DESTROY ≡ 25 }
     ensures mutex_acquire { callbacks.MUTEX_ACQUIRE ≡ 26 }
     ensures mutex_acquired { callbacks.MUTEX_ACQUIRED ≡ 27 }
+    ensures flush { callbacks.FLUSH ≡ 29 }
     ensures dispatch { callbacks.DISPATCH ≡ 32 }
-    ensures profile_mask { callbacks.PROFILE_MASK ≡ 4558356734 }
+    ensures profile_mask { callbacks.PROFILE_MASK ≡ 5095227646 }
 {}

@@ -26,9 +26,9 @@ use Rattle.omp_model.specs.declared.limits.TheConstants.{INITIAL_TASK, IMPLICIT_
 use Rattle.omp_model.specs.declared.event.Endpoint.{Endpoint}
 use Rattle.omp_model.specs.declared.event.Endpoint.TheVariants as endpoint
 use Rattle.omp_model.specs.declared.event.Event.{Event}
-use Rattle.omp_model.specs.declared.event.Event.TheVariants.{Dispatch, InitialTaskBegin, InitialTaskEnd, LockDestroy, LockInit, Masked, MemberBegin, MemberEnd, MutexAcquire, MutexAcquired, MutexReleased, ParallelBegin, ParallelEnd, Sync, TaskBegin, TaskCreate, TaskEnd, ThreadBegin, ThreadEnd, Work}
+use Rattle.omp_model.specs.declared.event.Event.TheVariants.{Dispatch, Flush, InitialTaskBegin, InitialTaskEnd, LockDestroy, LockInit, Masked, MemberBegin, MemberEnd, MutexAcquire, MutexAcquired, MutexReleased, ParallelBegin, ParallelEnd, Sync, TaskBegin, TaskCreate, TaskEnd, ThreadBegin, ThreadEnd, Work}
 use Rattle.omp_model.specs.declared.event.Share.{Share}
-use Rattle.omp_model.specs.declared.event.Share.TheVariants.{Chunk, Section}
+use Rattle.omp_model.specs.declared.event.Share.TheVariants as share
 use Rattle.omp_model.specs.State.{World, pooled_at, region_at}
 use Rattle.omp_model.specs.Members.{current, current_region, member_index}
 use Rattle.omp_model.specs.EventEffects.{sync_number}
@@ -81,11 +81,16 @@ sync_call W t which codeptr stage.WaitEnd =
 sync_call W t which codeptr stage.RegionEnd =
     call.SyncRegion (sync_number which) scope.END (synced_region W t which stage.RegionEnd) (own_task_word W t) codeptr
 
--- a chunk of a worksharing loop, or a section
+-- the thread flushes
+abbrev pub flush_call : World → ℕ → ℕ → Call
+flush_call W t codeptr = call.Flush (thread_word W t) codeptr
+
+-- a chunk of a worksharing loop, or a section. A flush has an event of its own
 abbrev pub dispatch_call : World → ℕ → Share → Call
-dispatch_call W t (Chunk start count) =
+dispatch_call W t (share.Chunk start count) =
     call.Dispatch (own_region_word W t) (own_task_word W t) dispatch_kind.WS_LOOP_CHUNK start count
-dispatch_call W t (Section codeptr) = call.Dispatch (own_region_word W t) (own_task_word W t) dispatch_kind.SECTION codeptr 0
+dispatch_call W t (share.Section codeptr) = call.Dispatch (own_region_word W t) (own_task_word W t) dispatch_kind.SECTION codeptr 0
+dispatch_call W t (share.Flush codeptr) = flush_call W t codeptr
 
 -- The callback of the event that has just occurred on the thread, with its arguments, in the world after the Go. They are those of 19.5.2. Where the
 -- initial task or a member's task ends, its region is NULL and its actual parallelism 0. Hints and variants are 0, and no task has dependences.
@@ -114,6 +119,7 @@ call_of W t (Masked at codeptr) = call.Masked (endpoint_number at) (own_region_w
 call_of W t (Sync which at codeptr) = sync_call W t which codeptr at
 call_of W t (MutexAcquire which wait_id codeptr) = call.MutexAcquire (mutex_number which) 0 0 wait_id codeptr
 call_of W t (MutexAcquired which wait_id codeptr) = call.MutexAcquired (mutex_number which) wait_id codeptr
+call_of W t (Flush codeptr) = flush_call W t codeptr
 call_of W t (MutexReleased which wait_id codeptr) = call.MutexReleased (mutex_number which) wait_id codeptr
 call_of W t (LockInit wait_id codeptr) = call.LockInit (mutex_number mutex.Lock) 0 0 wait_id codeptr
 call_of W t (LockDestroy wait_id codeptr) = call.LockDestroy (mutex_number mutex.Lock) wait_id codeptr
@@ -143,6 +149,7 @@ callback_of (Masked at codeptr) = callback.MASKED
 callback_of (Sync which at codeptr) = sync_callback at
 callback_of (MutexAcquire which wait_id codeptr) = callback.MUTEX_ACQUIRE
 callback_of (MutexAcquired which wait_id codeptr) = callback.MUTEX_ACQUIRED
+callback_of (Flush codeptr) = callback.FLUSH
 callback_of (MutexReleased which wait_id codeptr) = callback.MUTEX_RELEASED
 callback_of (LockInit wait_id codeptr) = callback.LOCK_INIT
 callback_of (LockDestroy wait_id codeptr) = callback.LOCK_DESTROY
@@ -186,5 +193,6 @@ IsMadeCall W (call.SyncRegionWait kind endpoint region task codeptr) = AreWords 
 IsMadeCall W (call.SyncRegion kind endpoint region task codeptr) = AreWords W region task
 IsMadeCall W (call.Work kind endpoint region task count codeptr) = AreWords W region task
 IsMadeCall W (call.Masked endpoint region task codeptr) = AreWords W region task
+IsMadeCall W (call.Flush thread codeptr) = IsThreadWord W thread
 IsMadeCall W (call.Dispatch region task kind start iterations) = AreWords W region task
 IsMadeCall W other = Unit {0}

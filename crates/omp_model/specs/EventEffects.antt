@@ -43,6 +43,7 @@ use Rattle.omp_model.specs.declared.event.Event.{Event}
 use Rattle.omp_model.specs.declared.event.Event.TheVariants as event
 use Rattle.omp_model.specs.declared.event.Halt.{Halt}
 use Rattle.omp_model.specs.declared.event.Halt.TheVariants.{Limit, Trap}
+use Rattle.omp_model.specs.declared.event.Share.TheVariants as share
 use Rattle.omp_model.specs.State.{Run, World, fresh_region, region_at, task_at, thread_at}
 use Rattle.omp_model.specs.Members.{current, current_index, current_region, current_team, is_explicit_task, is_member, member_index, moment_of, view_of}
 use Rattle.omp_model.specs.Gates.{is_barrier}
@@ -210,13 +211,17 @@ after_sync W t codeptr which stage.RegionBegin = if is_barrier which then after_
 after_sync W t codeptr which stage.WaitEnd = if is_barrier which then with_barrier_passed W (current_region W t) (current_index W t) else W
 after_sync W t codeptr which other = W
 
+-- a lock or critical comes to be owned, and a flush is to be told
+abbrev pub after_acquisition : World → ℕ → ℕ → ℕ → World
+after_acquisition W t codeptr wait_id = with_taken_share (owned_by W wait_id (Some (current W t))) t (Some (share.Flush codeptr))
+
 unfoldable pub effect_of_point : Run → World → ℕ → Moment → Point → World
 effect_of_point run W t now (point.ParallelBegin codeptr requested) = after_fork W t (nat_abs requested)
 effect_of_point run W t now (point.ParallelEnd codeptr) = region_over W (task_at W (current W t)).forked
 effect_of_point run W t now (point.TaskCreate codeptr undeferred) = after_creation run W t now undeferred
 effect_of_point run W t now (point.WorkBegin codeptr what) = after_meeting_at W t (work_met codeptr what)
 effect_of_point run W t now (point.Sync codeptr which at) = after_sync W t codeptr which at
-effect_of_point run W t now (point.MutexAcquired codeptr wait_id which) = owned_by W wait_id (Some (current W t))
+effect_of_point run W t now (point.MutexAcquired codeptr wait_id which) = after_acquisition W t codeptr wait_id
 effect_of_point run W t now (point.MutexReleased codeptr wait_id which) = owned_by W wait_id None
 effect_of_point run W t now (point.LockInit codeptr wait_id) = with_initialised_lock W wait_id
 effect_of_point run W t now (point.LockDestroy codeptr wait_id) = without_lock W wait_id
@@ -252,6 +257,7 @@ effect_of W t (event.MemberEnd r k) = without_code (with_finished_task (without_
 effect_of W t (event.TaskBegin prior task) = with_started_task (taken_up W t task) task
 effect_of W t (event.TaskEnd task) = without_code (without_current_task W t) task
 effect_of W t (event.Dispatch share) = with_taken_share W t None
+effect_of W t (event.Flush codeptr) = with_taken_share W t None
 effect_of W t other = W
 
 -- The Go of an event.

@@ -24,8 +24,10 @@ use Rattle.omp_model.specs.declared.parts.ThreadStage.{ThreadStage}
 use Rattle.omp_model.specs.declared.parts.ThreadStage.TheVariants as thread_stage
 use Rattle.omp_model.specs.declared.event.Arrival.{Arrival}
 use Rattle.omp_model.specs.declared.event.Arrival.TheVariants.{CodeEvent, RuntimeEvent, Steps, Waits}
-use Rattle.omp_model.specs.declared.event.Event.TheVariants.{Dispatch, InitialTaskBegin, InitialTaskEnd, MemberBegin, MemberEnd, TaskBegin, TaskEnd, ThreadBegin, ThreadEnd}
+use Rattle.omp_model.specs.declared.event.Event.{Event}
+use Rattle.omp_model.specs.declared.event.Event.TheVariants.{Dispatch, Flush, InitialTaskBegin, InitialTaskEnd, MemberBegin, MemberEnd, TaskBegin, TaskEnd, ThreadBegin, ThreadEnd}
 use Rattle.omp_model.specs.declared.event.Share.{Share}
+use Rattle.omp_model.specs.declared.event.Share.TheVariants as share
 use Rattle.omp_model.specs.State.{Thread, World, pooled_at, region_at, task_at, thread_at}
 use Rattle.omp_model.specs.Members.{code_of, current, current_index, current_region, current_team, is_member, region_of, view_of}
 
@@ -153,9 +155,14 @@ arrival_without_task W t = if t == 0 then arrival_around (pooled_at W INITIAL_TA
 abbrev pub arrival_of_task : World → ℕ → ℕ → Arrival
 arrival_of_task W t k = if k == 0 then arrival_without_task W t else arrival_in W t k (upcoming_of (view_of W t) (code_of W t))
 
--- a share of work that was taken is told before it is executed
+-- a share of work is told by a dispatch, and a flush by itself
+abbrev pub event_of_share : Share → Event
+event_of_share (share.Flush codeptr) = Flush codeptr
+event_of_share other = Dispatch other
+
+-- what was taken is told before the code goes on
 abbrev pub arrival_with_share : World → ℕ → Option Share → Arrival
-arrival_with_share W t (Some share) = RuntimeEvent (Dispatch share)
+arrival_with_share W t (Some taken) = RuntimeEvent (event_of_share taken)
 arrival_with_share W t None = arrival_of_task W t (current W t)
 
 -- an undeferred task starts at once

@@ -11,13 +11,15 @@ pub enum Endpoint {
     End,
 }
 
-/// A share of work that a thread has taken, which is told before it is executed.
+/// A share of work that a thread has taken, which is told before it is executed, or a flush that is to be told.
 #[derive(Clone, Copy)]
 pub enum Share {
     /// A chunk of a loop: its first iteration, counted from 0, and how many there are.
     Chunk { start: u64, count: u64 },
     /// The section at this place: its directive's `#`, or its first byte where it has none, as line × 65536 + column.
     Section(u64),
+    /// The flush of a lock or critical that the thread has come to own at this place.
+    Flush(u64),
 }
 
 /// An event of the machine. What isn't told is the thread's current task, its region or its data word, right after the event's Go.
@@ -98,6 +100,10 @@ pub enum Event {
     MutexAcquired {
         kind: MutexKind,
         wait_id: u32,
+        codeptr: u64,
+    },
+    /// The thread flushes, since it has come to own a lock or critical: `ompt_callback_flush` (19.5.2.17).
+    Flush {
         codeptr: u64,
     },
     /// It is given back: `ompt_callback_mutex_released` (19.5.2.15).

@@ -1,11 +1,11 @@
 -- A callback: its number (`ompt_callbacks_t`: OpenMP 5.2, 19.4.2), its name, and its arguments in the order of the specification (19.5.2).
 use Rattle.std.specs.Prelude.{ℕ, List, [], ◌∷◌}
 use Rattle.omp_codes.specs.Answers.{callback_name}
-use Rattle.omp_codes.specs.declared.callbacks.TheConstants.{THREAD_BEGIN, THREAD_END, PARALLEL_BEGIN, PARALLEL_END, TASK_CREATE, TASK_SCHEDULE, IMPLICIT_TASK, SYNC_REGION_WAIT, MUTEX_RELEASED, WORK, MASKED, SYNC_REGION, LOCK_INIT, LOCK_DESTROY, MUTEX_ACQUIRE, MUTEX_ACQUIRED, DISPATCH}
+use Rattle.omp_codes.specs.declared.callbacks.TheConstants.{THREAD_BEGIN, THREAD_END, PARALLEL_BEGIN, PARALLEL_END, TASK_CREATE, TASK_SCHEDULE, IMPLICIT_TASK, SYNC_REGION_WAIT, MUTEX_RELEASED, WORK, MASKED, SYNC_REGION, LOCK_INIT, LOCK_DESTROY, MUTEX_ACQUIRE, MUTEX_ACQUIRED, FLUSH, DISPATCH}
 use Rattle.ompt_calls.specs.declared.argument.Argument.{Argument}
 use Rattle.ompt_calls.specs.declared.argument.Argument.TheVariants.{Short, Long, Word, Frame}
 use Rattle.ompt_calls.specs.declared.call.Call.{Call}
-use Rattle.ompt_calls.specs.declared.call.Call.TheVariants.{ThreadBegin, ThreadEnd, ParallelBegin, ParallelEnd, TaskCreate, TaskSchedule, ImplicitTask, SyncRegionWait, MutexReleased, Work, Masked, SyncRegion, LockInit, LockDestroy, MutexAcquire, MutexAcquired, Dispatch}
+use Rattle.ompt_calls.specs.declared.call.Call.TheVariants.{ThreadBegin, ThreadEnd, ParallelBegin, ParallelEnd, TaskCreate, TaskSchedule, ImplicitTask, SyncRegionWait, MutexReleased, Work, Masked, SyncRegion, LockInit, LockDestroy, MutexAcquire, MutexAcquired, Flush, Dispatch}
 
 abbrev pub number_of : Call → ℕ
 number_of (ThreadBegin kind thread) = THREAD_BEGIN
@@ -24,6 +24,7 @@ number_of (LockInit kind hint variant wait_id codeptr) = LOCK_INIT
 number_of (LockDestroy kind wait_id codeptr) = LOCK_DESTROY
 number_of (MutexAcquire kind hint variant wait_id codeptr) = MUTEX_ACQUIRE
 number_of (MutexAcquired kind wait_id codeptr) = MUTEX_ACQUIRED
+number_of (Flush thread codeptr) = FLUSH
 number_of (Dispatch region task kind start iterations) = DISPATCH
 
 abbrev pub name_of : Call → List ℕ
@@ -50,4 +51,5 @@ arguments_of (LockInit kind hint variant wait_id codeptr) = Short kind ∷ Short
 arguments_of (LockDestroy kind wait_id codeptr) = Short kind ∷ Short wait_id ∷ Long codeptr ∷ []
 arguments_of (MutexAcquire kind hint variant wait_id codeptr) = Short kind ∷ Short hint ∷ Short variant ∷ Short wait_id ∷ Long codeptr ∷ []
 arguments_of (MutexAcquired kind wait_id codeptr) = Short kind ∷ Short wait_id ∷ Long codeptr ∷ []
+arguments_of (Flush thread codeptr) = Word thread ∷ Long codeptr ∷ []
 arguments_of (Dispatch region task kind start iterations) = Word region ∷ Word task ∷ Short kind ∷ Long start ∷ Long iterations ∷ []

@@ -143,6 +143,11 @@ pub enum Call {
         wait_id: u32,
         codeptr: u64,
     },
+    /// `ompt_callback_flush` (19.5.2.17).
+    Flush {
+        thread: Word,
+        codeptr: u64,
+    },
     /// `ompt_callback_dispatch` (19.5.2.6), with two numbers in place of its instance. Kind 3 is a chunk of a loop: its first iteration,
     /// counted from 0, and its length. Kind 2 is a section: its place, and 0.
     Dispatch {
@@ -193,6 +198,7 @@ macro_rules! by_callback {
                 kind: Short, hint: Short, variant: Short, wait_id: Short, codeptr: Long
             }
             MUTEX_ACQUIRED MutexAcquired { kind: Short, wait_id: Short, codeptr: Long }
+            FLUSH Flush { thread: Word, codeptr: Long }
             DISPATCH Dispatch {
                 region: Word, task: Word, kind: Short, start: Long, iterations: Long
             }

@@ -2,7 +2,7 @@
 use Rattle.std.specs.Prelude.{ℕ, ◌≡◌, if◌then◌else◌, ◌<◌, ◌≤◌, ◌+◌, ◌^◌, ◌==◌, ◌||◌, Bool, true, false, List, [], ◌∷◌, length}
 use Rattle.omp_codes.specs.Answers.{in_profile}
 use Rattle.omp_codes.specs.States.{states}
-use Rattle.omp_codes.specs.declared.callbacks.TheConstants.{THREAD_BEGIN, THREAD_END, PARALLEL_BEGIN, PARALLEL_END, TASK_CREATE, TASK_SCHEDULE, IMPLICIT_TASK, SYNC_REGION_WAIT, MUTEX_RELEASED, WORK, MASKED, SYNC_REGION, LOCK_INIT, LOCK_DESTROY, MUTEX_ACQUIRE, MUTEX_ACQUIRED, DISPATCH}
+use Rattle.omp_codes.specs.declared.callbacks.TheConstants.{THREAD_BEGIN, THREAD_END, PARALLEL_BEGIN, PARALLEL_END, TASK_CREATE, TASK_SCHEDULE, IMPLICIT_TASK, SYNC_REGION_WAIT, MUTEX_RELEASED, WORK, MASKED, SYNC_REGION, LOCK_INIT, LOCK_DESTROY, MUTEX_ACQUIRE, MUTEX_ACQUIRED, FLUSH, DISPATCH}
 use Rattle.omp_codes.specs.declared.dispatch_kinds.TheConstants as dispatch_kind
 use Rattle.omp_codes.specs.declared.endpoints.TheConstants as scope
 use Rattle.omp_codes.specs.declared.mutex_kinds.TheConstants as mutex_kind
@@ -15,7 +15,7 @@ use Rattle.omp_codes.specs.declared.work_kinds.TheConstants as work_kind
 use Rattle.ompt_calls.specs.declared.call.Word.{Word}
 use Rattle.ompt_calls.specs.declared.call.Frame.{Frame}
 use Rattle.ompt_calls.specs.declared.call.Call.{Call}
-use Rattle.ompt_calls.specs.declared.call.Call.TheVariants.{ThreadBegin, ThreadEnd, ParallelBegin, ParallelEnd, TaskCreate, TaskSchedule, ImplicitTask, SyncRegionWait, MutexReleased, Work, Masked, SyncRegion, LockInit, LockDestroy, MutexAcquire, MutexAcquired, Dispatch}
+use Rattle.ompt_calls.specs.declared.call.Call.TheVariants.{ThreadBegin, ThreadEnd, ParallelBegin, ParallelEnd, TaskCreate, TaskSchedule, ImplicitTask, SyncRegionWait, MutexReleased, Work, Masked, SyncRegion, LockInit, LockDestroy, MutexAcquire, MutexAcquired, Flush, Dispatch}
 use Rattle.ompt_calls.specs.declared.event.EventRecord.{EventRecord}
 use Rattle.ompt_calls.specs.Number.{is_registered, number_of}
 use Rattle.trace_format.specs.declared.kind.Kind.{Kind}
@@ -115,6 +115,7 @@ IsCall (LockDestroy kind wait_id codeptr) = (kind ≡ mutex_kind.LOCK) × IsShor
 IsCall (MutexAcquire kind hint variant wait_id codeptr) =
     IsAmong mutex_kinds kind × (hint ≡ 0) × (variant ≡ 0) × IsShort wait_id × IsLong codeptr
 IsCall (MutexAcquired kind wait_id codeptr) = IsAmong mutex_kinds kind × IsShort wait_id × IsLong codeptr
+IsCall (Flush thread codeptr) = IsWord thread × IsLong codeptr
 IsCall (Dispatch region task kind start iterations) = IsWord region × IsWord task × IsLong start × IsDispatched kind iterations
 
 -- The same by kinds, as the reader goes by them: those of a callback's arguments, by its number. That both say the same is proved.
@@ -135,6 +136,7 @@ kinds_of number =
     else if number == LOCK_DESTROY then arg.OfLock ∷ arg.Short ∷ arg.Place ∷ []
     else if number == MUTEX_ACQUIRE then arg.OfMutex ∷ arg.Zero ∷ arg.Zero ∷ arg.Short ∷ arg.Place ∷ []
     else if number == MUTEX_ACQUIRED then arg.OfMutex ∷ arg.Short ∷ arg.Place ∷ []
+    else if number == FLUSH then arg.Word ∷ arg.Place ∷ []
     else if number == DISPATCH then arg.Word ∷ arg.Word ∷ arg.OfDispatch ∷ arg.Long ∷ arg.Iterations ∷ []
     else []
 

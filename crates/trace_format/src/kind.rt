@@ -78,6 +78,7 @@ pub fn kinds_of(number: u32) -> &'static [Kind]
         callbacks::LOCK_DESTROY => &[OfLock, Short, Place],
         callbacks::MUTEX_ACQUIRE => &[OfMutex, Zero, Zero, Short, Place],
         callbacks::MUTEX_ACQUIRED => &[OfMutex, Short, Place],
+        callbacks::FLUSH => &[Word, Place],
         callbacks::DISPATCH => &[Word, Word, OfDispatch, Long, Iterations],
         _ => &[],
     }

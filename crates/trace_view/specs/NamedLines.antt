@@ -3,7 +3,7 @@ use Rattle.std.specs.Prelude.{ℕ, List, [], ◌∷◌, ◌++◌, codes}
 use Rattle.std.specs.List.{flat_map}
 use Rattle.std.specs.Fmt.{decimal}
 use Rattle.ompt_calls.specs.declared.call.Call.{Call}
-use Rattle.ompt_calls.specs.declared.call.Call.TheVariants.{ThreadBegin, ThreadEnd, ParallelBegin, ParallelEnd, TaskCreate, TaskSchedule, ImplicitTask, SyncRegionWait, MutexReleased, Work, Masked, SyncRegion, LockInit, LockDestroy, MutexAcquire, MutexAcquired, Dispatch}
+use Rattle.ompt_calls.specs.declared.call.Call.TheVariants.{ThreadBegin, ThreadEnd, ParallelBegin, ParallelEnd, TaskCreate, TaskSchedule, ImplicitTask, SyncRegionWait, MutexReleased, Work, Masked, SyncRegion, LockInit, LockDestroy, MutexAcquire, MutexAcquired, Flush, Dispatch}
 use Rattle.ompt_calls.specs.declared.event.EventRecord.{EventRecord}
 use Rattle.ompt_calls.specs.Arguments.{name_of}
 use Rattle.ompt_calls.specs.Line.{frame_text, place_text, spaced, word_text}
@@ -41,6 +41,7 @@ named_arguments (LockDestroy kind wait_id codeptr) = mutex_kind_text kind ∷ de
 named_arguments (MutexAcquire kind hint variant wait_id codeptr) =
     mutex_kind_text kind ∷ decimal hint ∷ decimal variant ∷ decimal wait_id ∷ place_text codeptr ∷ []
 named_arguments (MutexAcquired kind wait_id codeptr) = mutex_kind_text kind ∷ decimal wait_id ∷ place_text codeptr ∷ []
+named_arguments (Flush thread codeptr) = word_text thread ∷ place_text codeptr ∷ []
 named_arguments (Dispatch region task kind start iterations) =
     word_text region ∷ word_text task ∷ dispatch_kind_text kind ∷ decimal start ∷ decimal iterations ∷ []
 

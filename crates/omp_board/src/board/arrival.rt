@@ -10,7 +10,7 @@ ghost use Rattle.omp_model.specs.Gates as gates;
 
 use crate::board::Board;
 use c_model::{SyncKind, SyncStage, Upcoming};
-use omp_model::{Arrival, Event, IMPLICIT_REGION, INITIAL_TASK, STACK_LIMIT, ThreadStage};
+use omp_model::{Arrival, Event, IMPLICIT_REGION, INITIAL_TASK, STACK_LIMIT, Share, ThreadStage};
 use task_pool::{Condition, TaskKind};
 
 impl Board {
@@ -41,7 +41,7 @@ impl Board {
             });
         }
         if let Some(share) = found.taken() {
-            return Arrival::RuntimeEvent(Event::Dispatch(share));
+            return Arrival::RuntimeEvent(event_of_share(share));
         }
         if current == 0 {
             self.arrival_without_task(thread)
@@ -255,6 +255,16 @@ impl Board {
             .iter()
             .skip(1)
             .all(|thread| is_out(thread.stage()))
+    }
+}
+
+/// The event that tells what was taken: a dispatch, or a flush.
+fn event_of_share(share: Share) -> Event
+    ensures { result ≡ gates.event_of_share share }
+{
+    match share {
+        Share::Flush(codeptr) => Event::Flush { codeptr },
+        other => Event::Dispatch(other),
     }
 }
 

@@ -1,6 +1,6 @@
 //! What events change beside a task's code, and the traps and limits that they meet.
 
-ghost use Rattle.std.specs.Prelude.{◌≡◌, ◌<◌, ◌≤◌, IsOk, Some, None, int_lt, length, nat_abs, pos};
+ghost use Rattle.std.specs.Prelude.{◌≡◌, ◌<◌, ◌≤◌, IsOk, None, int_lt, length, nat_abs, pos};
 ghost use Rattle.team_parts.specs.Meetings.{HasChunk};
 ghost use Rattle.sync_objects.specs.Answers as answers;
 ghost use Rattle.sync_objects.specs.Faults.{fault_number};
@@ -26,8 +26,8 @@ use crate::board::arrival::is_barrier;
 use crate::board::meeting::{barrier_met, work_met};
 use c_model::{MutexKind, Point, SyncKind, SyncStage};
 use omp_model::{
-    Event, Halt, IMPLICIT_REGION, INITIAL_TASK, MISMATCH, NESTING, STACK, STACK_LIMIT, TASKS,
-    TEAM_SIZE, ThreadStage,
+    Event, Halt, IMPLICIT_REGION, INITIAL_TASK, MISMATCH, NESTING, STACK, STACK_LIMIT, Share,
+    TASKS, TEAM_SIZE, ThreadStage,
 };
 use sync_objects::LockFault;
 use task_pool::TaskKind;
@@ -62,7 +62,11 @@ impl Board {
                 stage,
             } => self.synchronise(thread, codeptr, kind, stage),
             Point::MutexAcquire { wait_id, kind, .. } => self.ask_for(thread, wait_id, kind),
-            Point::MutexAcquired { wait_id, .. } => self.acquire(thread, wait_id),
+            Point::MutexAcquired {
+                codeptr,
+                wait_id,
+                ..
+            } => self.acquire(thread, codeptr, wait_id),
             Point::MutexReleased { wait_id, .. } => self.release(thread, wait_id),
             Point::LockInit { wait_id, .. } => self.init_lock(wait_id),
             Point::LockDestroy { wait_id, .. } => self.destroy_lock(wait_id),
@@ -242,17 +246,18 @@ impl Board {
         }
     }
 
-    /// It comes to be owned.
-    fn acquire(&mut self, thread: u8, wait_id: u32) -> Result<(), Halt>
+    /// It comes to be owned, and a flush is to be told.
+    fn acquire(&mut self, thread: u8, codeptr: u64, wait_id: u32) -> Result<(), Halt>
         ensures effect { let W = self.old.world in IsEffect
             (going.lock_fault (answers.answer_to_may_take W.locks.locks wait_id))
-            (changes.owned_by W wait_id (Some (current W thread)))
+            (going.after_acquisition W thread codeptr wait_id)
             result W self.new.world }
         ensures kept { KeepsPassing self.old self.new }
     {
         self.may_acquire(wait_id)?;
         let task = self.current(thread);
         self.take(wait_id, task);
+        self.share(thread, Some(Share::Flush(codeptr)));
         Ok(())
     }
 
@@ -350,7 +355,7 @@ impl Board {
                 self.pop(thread);
                 self.empty(task);
             }
-            Event::Dispatch(_) => self.share(thread, None),
+            Event::Dispatch(_) | Event::Flush { .. } => self.share(thread, None),
             _ => {}
         }
     }
