@@ -1,4 +1,4 @@
-//! Why a program is refused.
+//! Why a program is refused. `number` and `spot` are tables, a row a fault.
 
 ghost use Rattle.std.specs.Prelude.{◌≡◌};
 ghost use Rattle.c_check.specs.Faults.{fault_number, fault_spot};

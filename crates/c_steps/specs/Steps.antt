@@ -9,7 +9,7 @@ use Rattle.c_steps.specs.Ready.{AreFrames, FitsProgram, IsSettled, IsStepping, I
 use Rattle.c_steps.specs.Views.{HasNumbers}
 use Rattle.c_steps.specs.Widths.{step_names}
 
--- a step can be made of what stands next, and there is room for the names that it brings
+-- a step can be made of what stands next, there is room for the names that it brings, and what the thread sees are numbers of expressions
 pub record CanStep (program : TreeView) (view : View) (held : ControlView) : Type 0 where
   pub stepping : IsStepping program held
   pub numbers : HasNumbers view
@@ -22,7 +22,7 @@ pub record Advances (program : TreeView) (result : Next) (old : ControlView) (be
   pub numbers : FitsProgram program result
   pub frames : AreFrames program new.frames
 
--- an answer says this outcome, and nothing was done
+-- a result says this outcome, and nothing was done
 pub record Tells (program : TreeView) (result : Next) (outcome : Outcome) : Type 0 where
   pub step : (now : Moment) → outcome_at program result now ≡ outcome
   pub unchanged : IsUnchanging result

@@ -1,4 +1,4 @@
-//! Why words are no program.
+//! Why words are no program. `number` and `spot` are tables, a row a fault.
 
 ghost use Rattle.std.specs.Prelude.{◌≡◌, ◌≢◌};
 ghost use Rattle.c_syntax.specs.language.Words.{Word};

@@ -217,6 +217,8 @@ impl Reader {
         Ok(Progress::Stays)
     }
 
+    // The functions from here to `wrap` are a table: one for each step that makes nodes.
+
     /// A node begins at the word.
     fn open(&mut self, word: Word) -> Result<Progress, SyntaxFault>
         ensures does { (next : Spelled) → IsSeen next word →

@@ -1,4 +1,4 @@
-//! Tokens, their places, and the faults of a text.
+//! Tokens, their places, and the faults of a text. `number` and `spot` of faults are tables, a row a fault.
 
 ghost use Rattle.std.specs.Prelude.{◌≡◌};
 ghost use Rattle.c_tokens.specs.language.Faults.{fault_number, fault_spot};

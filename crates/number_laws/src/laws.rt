@@ -1,4 +1,5 @@
-//! The numbers that OMPT has for what this runtime tells, written out: each law says what one constant of `omp_codes` is.
+//! The numbers that OMPT has for what this runtime tells, written out: each law says what one constant of `omp_codes` is. Each law is a
+//! table, a clause a constant.
 
 ghost use Rattle.std.specs.Prelude.{◌≡◌};
 ghost use Rattle.omp_codes.specs.declared.endpoints.TheConstants as endpoints;

@@ -1,8 +1,8 @@
 //! OMPT's numbers, as literals.
 //!
 //! Definitions, contracts and code cite the numbers of callbacks and enumerations by the names that `omp_codes` gives them. So a name with a wrong
-//! number would be the same wrong number everywhere, and no other contract would show it. Here each is compared with the number that stands in
-//! OpenMP 5.2, 19.4. Those of the callbacks are compared in `omp_codes::callbacks`, beside them.
+//! number would be the same wrong number everywhere, and no other contract would show it. Here each but those of the callbacks is compared
+//! with the number that stands in OpenMP 5.2, 19.4. Those of the callbacks are compared beside them, in `omp_codes::callbacks`.
 //!
 //! Proved, as laws of the constants:
 //!

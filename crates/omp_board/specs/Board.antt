@@ -149,8 +149,8 @@ IsGoing program W t answer after = IsGoingBy (go_of_code (run_of program) W t) W
 abbrev pub IsGoingTo : TreeView → World → ℕ → Moment → Point → Result Event Halt → World → Type 0
 IsGoingTo program W t now what answer after = IsGoingBy (going_to_point (run_of program) W t now what) W answer after
 
-abbrev pub IsGoingBeside : World → ℕ → Event → Result Event Halt → World → Type 0
-IsGoingBeside W t which answer after = IsGoingBy (go_of_runtime W t which) W answer after
+abbrev pub IsGoOfRuntime : World → ℕ → Event → Result Event Halt → World → Type 0
+IsGoOfRuntime W t which answer after = IsGoingBy (go_of_runtime W t which) W answer after
 
 -- the run of a program with so many threads, in what its first world depends on
 abbrev pub run_in : TreeView → ℕ → Run

@@ -1,4 +1,4 @@
-//! The call of an event.
+//! The call of an event. It is a table: one function an event, with the arguments of its call.
 
 ghost use Rattle.std.specs.Prelude.{◌≡◌};
 ghost use Rattle.c_model.specs.declared.point.MutexKind.TheVariants as mutex;

@@ -177,7 +177,7 @@ impl Thread {
     }
 
     /// The thread is to join the region next. It is made, if it wasn't.
-    pub fn summon(&mut self, region: u32)
+    pub fn invite(&mut self, region: u32)
         ensures { self.new ≡ with_invitation region self.old }
     {
         if let ThreadStage::Unmade = self.stage {

@@ -1,29 +1,33 @@
 -- What a registration is answered, and the callbacks of the profile. The numbers are those of `ompt_callbacks_t`
 -- (OpenMP 5.2, 19.4.2).
-use Rattle.std.specs.Prelude.{ℕ, ◌+◌, ◌^◌, ◌==◌, Bool, ◌&&◌, ◌||◌, codes, filter, nat_le, if◌then◌else◌, List, [], ◌∷◌}
+use Rattle.std.specs.Prelude.{ℕ, ◌+◌, ◌^◌, ◌==◌, Bool, ◌&&◌, ◌||◌, not, codes, filter, nat_le, if◌then◌else◌, List, [], ◌∷◌}
 use Rattle.std.specs.List.{range_with_len}
 use Rattle.omp_codes.specs.declared.set_results.TheConstants.{ALWAYS, ERROR, NEVER}
 
 abbrev pub within : ℕ → ℕ → ℕ → Bool
 within first last number = nat_le first number && nat_le number last
 
--- these are called at each of their events. Those of devices have none in a program that runs here
-abbrev pub is_always : ℕ → Bool
-is_always number = within 1 17 number || within 20 27 number || within 32 36 number
+-- the callbacks whose events a program may have
+abbrev pub in_profile : ℕ → Bool
+in_profile number = within 1 7 number || within 16 17 number || within 20 21 number || within 23 27 number || within 32 32 number
 
--- these are callbacks, and are never called: dependences, nested locks, flush, cancel, reduction, error
+-- those of devices and of control by the tool, which have no event in a program that runs here
+abbrev pub is_of_devices : ℕ → Bool
+is_of_devices number = within 8 15 number || within 22 22 number || within 33 36 number
+
+-- these are called at each of their events
+abbrev pub is_always : ℕ → Bool
+is_always number = in_profile number || is_of_devices number
+
+-- the others are callbacks, and are never called: dependences, nested locks, flush, cancel, reduction, error
 abbrev pub is_never : ℕ → Bool
-is_never number = within 18 19 number || within 28 31 number || within 37 37 number
+is_never number = within 1 37 number && not (is_always number)
 
 -- `ompt_set_always`, `ompt_set_never`, and `ompt_set_error` for what is no callback
 abbrev pub answer_of : ℕ → ℕ
 answer_of number = if is_always number then ALWAYS else if is_never number then NEVER else ERROR
 
--- the callbacks whose events a program may have
-abbrev pub in_profile : ℕ → Bool
-in_profile number = within 1 7 number || within 16 17 number || within 20 21 number || within 23 27 number || within 32 32 number
-
--- .. by rising numbers
+-- the callbacks of the profile by rising numbers
 abbrev pub profile : List ℕ
 profile = filter in_profile (range_with_len 0 64)
 

@@ -3,6 +3,7 @@
 ghost use Rattle.std.specs.Prelude.{◌≡◌};
 ghost use Rattle.omp_codes.specs.Answers.{answer_of};
 
+use crate::callbacks::is_profile;
 use crate::set_results::{ALWAYS, ERROR, NEVER};
 
 /// What the registration of the callback with this number in `ompt_callbacks_t` (OpenMP 5.2, 19.4.2) is answered: one of
@@ -13,8 +14,9 @@ pub fn set_answer(number: u32) -> u8
     ensures { result ≡ answer_of number }
 {
     match number {
-        1..=17 | 20..=27 | 32..=36 => ALWAYS,
-        18 | 19 | 28..=31 | 37 => NEVER,
+        _ if is_profile(number) => ALWAYS,
+        8..=15 | 22 | 33..=36 => ALWAYS,
+        1..=37 => NEVER,
         _ => ERROR,
     }
 }

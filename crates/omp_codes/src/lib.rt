@@ -8,7 +8,7 @@
 //!
 //! - [`set_answer`] is `answer_of`, and [`is_profile`] is `in_profile`;
 //! - [`PROFILE`] lists the callbacks that `in_profile` says, by rising numbers, [`PROFILE_MASK`] is the mask with them, and each has a name,
-//!   by [`profile_has_its_mask`]; [`callbacks::COUNT`] is how many they are;
+//!   by [`profile_has_its_mask`];
 //! - [`callbacks::name`] is `callback_name`, and the numbers of the callbacks are those of [`callbacks_have_their_numbers`];
 //! - [`next_state`] is `next_of`: the one that follows in the list of the states.
 //!

@@ -1,35 +1,24 @@
 -- Guests beside profiles: what they stand for after a run, and what the profiles have counted.
 use Rattle.std.proofs.Common.{◌≡◌, ◌≢◌, ℕ, zero, suc, ◌<◌, ◌≤◌, ◌++◌, ◌||◌, Bool, List, [], ◌∷◌, bit_or, length, map, slice_index_or, refl, sym, ap, subst, ◌∙◌, arith}
 use Rattle.std.proofs.lemmas.List.{get_or-map, length-map, nil_from_length}
-use Rattle.ompt_calls.specs.Number.{is_registered}
-use Rattle.omp_codes.specs.declared.callbacks.TheConstants.{PROFILE_MASK}
-use Rattle.tool_api.specs.Record.{IsUncalled, Record, Start, StoresNothing, initialized}
-use Rattle.tool_api.specs.Registering.{mask_of}
-use Rattle.tool_api.specs.Handed.{handed-onward}
-use Rattle.tool_api.specs.declared.handed.Handed.{Handed}
+use Rattle.ompt_cli.specs.Names.{is_registered, PROFILE_MASK, IsUncalled, Record, StoresNothing, initialized, mask_of}
+use Rattle.ompt_cli.specs.Names.{Handed, Cause, Entry, Run, heard_of, Legal, record_of, records_of, counts_of, AreKept}
+use Rattle.ompt_cli.specs.Names.{HasHeard, HasStarted, ProfiledFor, SameProfiled}
 use Rattle.tool_api.specs.declared.handed.Handed.TheVariants as held
-use Rattle.omp_model.specs.declared.cause.Cause.{Cause}
 use Rattle.omp_model.specs.declared.cause.Cause.TheVariants as causes
-use Rattle.omp_model.specs.declared.history.Entry.{Entry}
-use Rattle.omp_model.specs.State.{Run}
-use Rattle.omp_model.specs.Heard.{heard_of}
-use Rattle.omp_model.specs.Legal.{Legal}
-use Rattle.omp_model.specs.Records.{record_of, records_of}
-use Rattle.team_run.specs.Serving.{AreSame, RunsParts, called_for, record_of_first}
-use Rattle.team_run.specs.Standing.{AreSilent, HearsOwn}
-use Rattle.tool_both.specs.declared.masks.Masks.{Masks}
-use Rattle.tool_both.specs.Joined.{starts_of}
-use Rattle.tool_both.specs.Tools.{fresh_both}
-use Rattle.tool_report.specs.Counts.{counts_of}
-use Rattle.tool_report.specs.Order.{AreKept}
-use Rattle.tool_profiled.specs.Hearing.{HasHeard, HasStarted}
-use Rattle.tool_profiled.specs.Joining.{AreJoined, Profiled, ProfiledFor, SameProfiled, nothing_counted, part_in, profile_in}
-use Rattle.tool_profiled.proofs.Hearing.{first-heard, with_mark, other-heard, other-hears, other-started, part-silent, part-started, profile-counts, run-answer, run-mask, nothing_said}
+use Rattle.tool_api.specs.{Record.Start, Handed.handed-onward}
+use Rattle.tool_both.specs.{declared.masks.Masks.Masks, Joined.starts_of, Tools.fresh_both}
+use Rattle.tool_profiled.specs.Joining.{AreJoined, Profiled, nothing_counted, part_in, profile_in}
+use Rattle.tool_profiled.proofs.Hearing.{first-heard, with_mark, other-heard, other-hears, other-started, part-silent}
+use Rattle.tool_profiled.proofs.Hearing.{part-started, profile-counts, run-answer, run-mask, nothing_said}
 use Rattle.tool_profiled.proofs.Standing.{each-unsaid, first-is, first-marked, other-is, other-marked}
 use Rattle.tool_profiled.proofs.Union.{in-union}
+use Rattle.team_run.specs.Serving.{AreSame, RunsParts, called_for, record_of_first}
+use Rattle.team_run.specs.Standing.{AreSilent, HearsOwn}
 use Rattle.ompt_cli.specs.Guests.{GuestsJoin, HandOut, ComesTo, guests_of}
 use Rattle.ompt_cli.proofs.Calls.{first-ended, other-ended, same-first, same-unheard}
-use Rattle.ompt_cli.proofs.Handing.{For, SamePart, as-many, fresh-quiet, guest-in, guest-out, guest-past, guest-same, none-in, none-out}
+use Rattle.ompt_cli.proofs.Handing.{For, SamePart, as-many, fresh-quiet, guest-in, guest-out, guest-past, guest-same}
+use Rattle.ompt_cli.proofs.Handing.{none-in, none-out}
 use Rattle.ompt_cli.proofs.Keeping.{kept-shares, nothing_called, silent-each}
 
 -- the starts of a record with a mark, of which there was none else before

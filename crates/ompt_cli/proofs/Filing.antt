@@ -1,29 +1,15 @@
 -- What is written of a run: a trace, or a history file, which is a certificate of the run.
 use Rattle.std.proofs.Common.{◌≡◌, ◌≢◌, ◌≤◌, ◌⊎◌, inl, inr, ℕ, List, length, Option, Some, None, refl, sym, ap, subst, ◌∙◌, arith}
-use Rattle.omp_model.specs.declared.cause.Cause.{Cause}
+use Rattle.ompt_cli.specs.Names.{Cause, Entry, Legal, records_of, Run, EventRecord, FitsCause, AreShared}
+use Rattle.ompt_cli.specs.Names.{history_fields, history_spelling, FitsFile, Command, Running, Settings}
 use Rattle.omp_model.specs.declared.cause.Cause.TheVariants as causes
-use Rattle.omp_model.specs.declared.history.Entry.{Entry}
-use Rattle.omp_model.specs.Legal.{Legal}
-use Rattle.omp_model.specs.Records.{records_of}
-use Rattle.omp_model.specs.State.{Run}
-use Rattle.ompt_calls.specs.declared.event.EventRecord.{EventRecord}
-use Rattle.run_trace.proofs.Heard.{few-records}
-use Rattle.run_trace.specs.TraceOf.{FitsCause, detail_of, status_of}
-use Rattle.tool_report.specs.Order.{AreShared}
-use Rattle.history_file.specs.Fields.{fields_of as history_fields, spelling as history_spelling}
-use Rattle.history_file.specs.Fitting.{FitsFile}
-use Rattle.history_file.proofs.OfRuns.{files_of_runs}
-use Rattle.ompt_words.specs.declared.settings.Command.{Command}
-use Rattle.ompt_words.specs.declared.settings.Command.TheVariants.{Run as Running}
 use Rattle.ompt_words.specs.declared.settings.RunOutput.TheVariants as output
-use Rattle.ompt_cli.specs.declared.end.End.{End}
+use Rattle.run_trace.{proofs.Heard.few-records, specs.TraceOf.detail_of, specs.TraceOf.status_of}
+use Rattle.history_file.proofs.OfRuns.{files_of_runs}
 use Rattle.ompt_cli.specs.declared.end.End.TheVariants as end
-use Rattle.ompt_cli.specs.declared.report.Report.{Report}
 use Rattle.ompt_cli.specs.Commands.{EndsAs, IsSharedFew, run_of, run_text, text_in, unless_memory, written_by}
-use Rattle.ompt_cli.specs.Histories.{file_of_report}
-use Rattle.ompt_words.specs.declared.settings.Settings.{Settings}
-use Rattle.ompt_cli.specs.declared.job.Job.{Job}
-use Rattle.ompt_cli.specs.Reports.{HasCertificate, Observes}
+use Rattle.ompt_cli.specs.{declared.end.End.End, declared.report.Report.Report, Histories.file_of_report}
+use Rattle.ompt_cli.specs.{declared.job.Job.Job, Reports.HasCertificate, Reports.Observes}
 use Rattle.ompt_cli.proofs.Telling.{few-threads, some-threads}
 
 -- something is written of each run that found memory

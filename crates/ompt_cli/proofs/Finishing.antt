@@ -1,37 +1,26 @@
 -- How a run has ended: whole exactly at Done or Returned, and with no thread inside a callback. And that the trace of a run of a program that a text spells is nested.
 use Rattle.std.proofs.Common.{◌≡◌, ◌≢◌, ◌<◌, ◌≤◌, ℕ, zero, suc, ℤ, pos, negsuc, ◌&&◌, Bool, true, false, if◌then◌else◌, List, [], ◌∷◌, length, Option, Some, None, is_none, slice_index_or, refl, sym, ap, subst, ◌∙◌, ◌↔◌, arith}
 use Rattle.std.specs.List.{list_all}
-use Rattle.omp_codes.specs.declared.callbacks.TheConstants.{PROFILE_MASK}
+use Rattle.ompt_cli.specs.Names.{PROFILE_MASK, Record, Cause, Callback, Halt, Entry, Run, State, cause_of, threads_over}
+use Rattle.ompt_cli.specs.Names.{main_returned, Legal, after, trace_of}
+use Rattle.omp_model.specs.declared.cause.Cause.TheVariants as causes
 use Rattle.c_syntax.specs.language.Words.{words_of}
 use Rattle.c_check.proofs.Earliest.{none-broken}
 use Rattle.c_model.proofs.GrammarTrees.{spelled_is_formed}
-use Rattle.tool_api.specs.Record.{Record}
-use Rattle.omp_model.specs.declared.cause.Cause.{Cause}
-use Rattle.omp_model.specs.declared.cause.Cause.TheVariants as causes
-use Rattle.omp_model.specs.declared.event.Callback.{Callback}
-use Rattle.omp_model.specs.declared.event.Halt.{Halt}
 use Rattle.omp_model.specs.declared.event.Halt.TheVariants.{Trap, Limit}
-use Rattle.omp_model.specs.declared.history.Entry.{Entry}
-use Rattle.omp_model.specs.State.{Run, State}
-use Rattle.omp_model.specs.Cause.{cause_of, cause_by_halt, cause_of_halt, cause_of_value, cause_of_whole, is_stuck, main_value, none_pending, threads_over, whole_value}
-use Rattle.omp_model.specs.Gates.{main_returned}
-use Rattle.omp_model.specs.Legal.{Legal, after}
+use Rattle.omp_model.specs.Cause.{cause_by_halt, cause_of_halt, cause_of_value, cause_of_whole, is_stuck, main_value}
+use Rattle.omp_model.specs.Cause.{none_pending, whole_value}
 use Rattle.omp_model.proofs.MadeRuns.{made-after}
-use Rattle.run_trace.specs.TraceOf.{trace_of}
 use Rattle.nested_runs.proofs.Nesting.{nested}
-use Rattle.team_run.specs.Serving.{RunsParts}
-use Rattle.team_run.specs.Unheard.{IsUnheard, LeftAt}
+use Rattle.team_run.specs.{Serving.RunsParts, Unheard.IsUnheard, Unheard.LeftAt}
 use Rattle.team_run.proofs.Visiting.{all_none-at}
-use Rattle.ompt_cli.specs.Runs.{AreOutside, IsReturn, IsWhole}
-use Rattle.ompt_cli.specs.Text.{Spells}
-use Rattle.ompt_cli.specs.Traces.{IsNested}
+use Rattle.ompt_cli.specs.{Runs.AreOutside, Runs.IsReturn, Runs.IsWhole, Text.Spells, Traces.IsNested}
 use Rattle.ompt_cli.proofs.Halting.{not_halted}
 
 -- what main returned is told as a return
 returns : (value : ℤ) → IsReturn (cause_of_value value)
 returns (pos zero) = tt
-returns (pos (suc n)) = tt
-returns (negsuc n) = tt
+returns other = tt
 
 no-return : (halt : Halt) → IsReturn (cause_of_halt halt) → ⊥
 no-return (Trap number) returned = returned
@@ -44,8 +33,7 @@ not-stuck false cause same returned = cc
 
 both : (run : Run) (S : State) (cause : Cause) (over returned : Bool) → cause_of_whole run S (if over && returned then Some (main_value S.world) else None) ≡ Some cause → IsReturn cause → (over ≡ true) × (returned ≡ true)
 both run S cause true true same is = (refl, refl)
-both run S cause true false same is = absurd (not-stuck (is_stuck run S) cause same is)
-both run S cause false returned same is = absurd (not-stuck (is_stuck run S) cause same is)
+both run S cause over returned same is = absurd (not-stuck (is_stuck run S) cause same is)
 
 whole-from : (run : Run) (history : List Entry) (cause : Cause) (halt : Option Halt) → cause_by_halt run (after run history) halt ≡ Some cause → IsReturn cause → IsWhole run history
 whole-from run history cause (Some halt) same is = let told : cause_of_halt halt ≡ cause = cc in absurd (no-return halt (subst IsReturn (sym told) is))

@@ -1,34 +1,23 @@
 -- A trap or a limit leaves a thread that hasn't ended: the one that met it is inside no callback and has no turn any more, so nothing takes it further.
 use Rattle.std.proofs.Common.{◌≡◌, ℕ, zero, suc, ◌+◌, ◌&&◌, Bool, true, false, IsTrue, if◌then◌else◌, List, [], ◌∷◌, Option, Some, None, is_none, slice_index_or, refl, sym, ap, subst, ◌∙◌, true≢false}
-use Rattle.std.proofs.lemmas.Bool.{and_parts}
-use Rattle.std.specs.List.{list_all}
+use Rattle.std.{proofs.lemmas.Bool.and_parts, specs.List.list_all}
+use Rattle.ompt_cli.specs.Names.{Callback, Halt, Entry, threads_over, Legal, after, Run, State, pending_at}
 use Rattle.c_model.specs.declared.point.SyncStage.TheVariants as sync_stage
-use Rattle.ompt_calls.specs.declared.snapshot.Target.{Target}
-use Rattle.omp_model.specs.declared.event.Callback.{Callback}
-use Rattle.omp_model.specs.declared.event.Event.{Event}
 use Rattle.omp_model.specs.declared.event.Event.TheVariants as event
-use Rattle.omp_model.specs.declared.event.Halt.{Halt}
-use Rattle.omp_model.specs.declared.event.Outcome.{Outcome}
 use Rattle.omp_model.specs.declared.event.Outcome.TheVariants as outcome
-use Rattle.omp_model.specs.declared.history.Entry.{Entry}
-use Rattle.omp_model.specs.declared.history.What.{What}
-use Rattle.omp_model.specs.declared.history.What.TheVariants.{Go, Put, Back}
-use Rattle.omp_model.specs.declared.parts.ThreadStage.{ThreadStage}
 use Rattle.omp_model.specs.declared.parts.ThreadStage.TheVariants as stage
-use Rattle.omp_model.proofs.Alike.{QuietWorld}
-use Rattle.omp_model.specs.Cause.{threads_over}
+use Rattle.ompt_calls.specs.declared.snapshot.Target.{Target}
+use Rattle.omp_model.specs.declared.history.What.TheVariants.{Go, Put, Back}
 use Rattle.omp_model.specs.Changes.{with_invitations, stage_once_made, with_members_invited, with_invitation}
 use Rattle.omp_model.specs.Gates.{arrival, arrival_at, is_out}
-use Rattle.omp_model.specs.Legal.{AllowsFrom, Legal, after, after_from, back_from, does, entered, may, put_from}
-use Rattle.omp_model.specs.Members.{is_outermost}
-use Rattle.omp_model.specs.Returning.{after_created, at_back}
-use Rattle.omp_model.specs.State.{Run, State, Thread, World, first, pending_at, region_at, thread_at, unmade, with_thread}
-use Rattle.omp_model.specs.Turn.{enabled, goes_on, turn}
+use Rattle.omp_model.specs.Legal.{AllowsFrom, after_from, back_from, does, entered, may, put_from}
+use Rattle.omp_model.specs.State.{Thread, World, first, region_at, thread_at, unmade, with_thread}
+use Rattle.omp_model.specs.{declared.event.Event.Event, declared.event.Outcome.Outcome, declared.history.What.What}
+use Rattle.omp_model.specs.{declared.parts.ThreadStage.ThreadStage, Members.is_outermost, Returning.after_created}
+use Rattle.omp_model.specs.{Returning.at_back, Turn.enabled, Turn.goes_on, Turn.turn}
 use Rattle.omp_model.proofs.AlikeWorlds.{alike-stored, quiet-turn}
-use Rattle.omp_model.proofs.Later.{at-set}
-use Rattle.omp_model.proofs.MadeWords.{at-summoned}
-use Rattle.omp_model.proofs.Turning.{Turned}
 use Rattle.omp_model.proofs.Turns.{halts-pending, turn-goes, turn-happens, turn-not_idle, turn-quiet}
+use Rattle.omp_model.proofs.{Alike.QuietWorld, Later.at-set, MadeWords.at-summoned, Turning.Turned}
 
 -- the thread was made and hasn't ended
 abbrev IsIn : Thread → Type 0
@@ -50,10 +39,9 @@ LeavesOne S = LeftWhere S S.halt
 
 -- a thread that has a turn hasn't ended
 stage-in : (W : World) (t : ℕ) (now : ThreadStage) → goes_on (arrival_at W t now) ≡ true → is_out now ≡ false
-stage-in W t stage.Unmade goes = absurd (true≢false (sym goes))
 stage-in W t stage.Made goes = refl
 stage-in W t stage.Begun goes = refl
-stage-in W t stage.Ended goes = absurd (true≢false (sym goes))
+stage-in W t now goes = absurd (true≢false (sym goes))
 
 -- an enabled thread hasn't ended
 enabled-in : (S : State) (t : ℕ) → enabled S t ≡ true → IsIn (thread_at S.world t)
@@ -104,9 +92,7 @@ put-leaves S t target word (Some callback) is left =
 -- a thread that is summoned and hadn't ended hasn't ended
 made-in : (now : ThreadStage) → is_out now ≡ false → is_out (stage_once_made now) ≡ false
 made-in stage.Unmade is = refl
-made-in stage.Made is = is
-made-in stage.Begun is = is
-made-in stage.Ended is = is
+made-in now is = is
 
 -- the Back of a thread's event ends no other thread
 module _ (W : World) (t u : ℕ) (other : u ≡ t → ⊥) (is : IsIn (thread_at W u)) where

@@ -1,15 +1,10 @@
 -- Guests are handed out to threads, and taken back.
 use Rattle.std.proofs.Common.{◌≡◌, ℕ, zero, suc, ◌<◌, ◌≤◌, Bool, List, [], ◌∷◌, ◌++◌, length, slice_index_or, refl, sym, ap, subst, ◌∙◌, arith}
 use Rattle.std.proofs.lemmas.List.{nil_from_length}
-use Rattle.tool_api.specs.Record.{Record, QuietFor, StartedWith, StoresNothing}
-use Rattle.tool_api.specs.declared.quiet.Quiet.{Quiet}
-use Rattle.tool_api.specs.Handed.{HandedFor, SameHanded}
-use Rattle.tool_api.specs.declared.handed.Handed.{Handed}
+use Rattle.ompt_cli.specs.Names.{Record, StartedWith, StoresNothing, HandedFor, SameHanded, Handed, Cause, Entry, Run}
+use Rattle.ompt_cli.specs.Names.{heard_of}
 use Rattle.tool_api.specs.declared.handed.Handed.TheVariants as held
-use Rattle.omp_model.specs.declared.cause.Cause.{Cause}
-use Rattle.omp_model.specs.declared.history.Entry.{Entry}
-use Rattle.omp_model.specs.State.{Run}
-use Rattle.omp_model.specs.Heard.{heard_of}
+use Rattle.tool_api.specs.{Record.QuietFor, declared.quiet.Quiet.Quiet}
 use Rattle.team_run.specs.Serving.{AreSame, RunsParts, called_for, record_of_first}
 use Rattle.team_run.specs.Standing.{AreSilent}
 use Rattle.ompt_cli.specs.Guests.{GuestsServe, HandOut, guests_of}

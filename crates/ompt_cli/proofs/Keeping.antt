@@ -3,30 +3,17 @@ use Rattle.std.proofs.Common.{◌≡◌, ℕ, ◌+◌, ◌<◌, ◌≤◌, Bool,
 use Rattle.std.specs.List.{range_with_len}
 use Rattle.std.proofs.lemmas.List.{get_or-map, get_or-replicate, length-map, length-replicate, same_lists}
 use Rattle.std.proofs.lemmas.List.FromFn.{get_or-map-range_with_len, length-map-range_with_len}
-use Rattle.ompt_calls.specs.Item.{Item}
-use Rattle.tool_api.specs.Record.{Record, StartedWith, initialized, StoresNothing}
-use Rattle.omp_codes.specs.declared.callbacks.TheConstants.{PROFILE_MASK}
-use Rattle.tool_report.specs.KeeperRelation.{KeeperFor}
-use Rattle.tool_report.specs.Order.{AreFrom, AreKept, AreRising, AreShared}
-use Rattle.omp_model.specs.declared.cause.Cause.{Cause}
-use Rattle.omp_model.specs.declared.history.Entry.{Entry}
-use Rattle.ompt_calls.specs.declared.event.EventRecord.{EventRecord}
-use Rattle.omp_model.specs.State.{Run}
-use Rattle.omp_model.specs.Heard.{heard, heard_of}
-use Rattle.omp_model.specs.Legal.{Legal}
-use Rattle.omp_model.specs.Records.{record_of, records_of}
+use Rattle.ompt_cli.specs.Names.{Item, Record, StartedWith, initialized, StoresNothing, PROFILE_MASK, KeeperFor}
+use Rattle.ompt_cli.specs.Names.{AreKept, AreShared, Cause, Entry, EventRecord, Run, heard, heard_of, Legal, record_of}
+use Rattle.ompt_cli.specs.Names.{records_of, SEQ_LIMIT, mask_of}
+use Rattle.tool_report.specs.Order.{AreFrom, AreRising}
 use Rattle.omp_model.proofs.Recording.{records-by_thread}
 use Rattle.run_trace.proofs.Heard.{AreBelow, places-below}
-use Rattle.trace_format.specs.declared.trace.TheConstants.{SEQ_LIMIT}
 use Rattle.team_run.specs.Serving.{RunsParts, served}
-use Rattle.tool_api.specs.Registering.{mask_of}
 use Rattle.team_run.specs.Standing.{AreSilent, HearsOwn, HearsSilent}
-use Rattle.ompt_cli.specs.declared.observing.Observed.{Observed}
-use Rattle.ompt_cli.specs.declared.job.Job.{Job}
-use Rattle.ompt_cli.specs.Commands.{run_of}
 use Rattle.ompt_cli.specs.Reports.{HasKept, HasObserved}
-use Rattle.ompt_cli.proofs.Calls.{SameCalls, same-first, same-unheard}
-use Rattle.ompt_cli.proofs.Telling.{threads-are}
+use Rattle.ompt_cli.specs.{declared.observing.Observed.Observed, declared.job.Job.Job, Commands.run_of}
+use Rattle.ompt_cli.proofs.{Calls.SameCalls, Calls.same-first, Calls.same-unheard, Telling.threads-are}
 
 -- positions from one on are from each smaller one on
 from-less : (least more : ℕ) (events : List EventRecord) → least ≤ more → AreFrom more events → AreFrom least events

@@ -1,34 +1,20 @@
 -- A text spells a program, or is refused for one thing, and not both.
 use Rattle.std.proofs.Common.{◌≡◌, ℕ, ◌≤◌, ◌⊎◌, Bool, true, false, ltb, inl, inr, List, [], ◌∷◌, ◌++◌, append-nil, length, length-append, Option, Some, None, IfSome, IsSomeAnd, Ok, refl, sym, ap, subst, ◌∙◌, arith}
 use Rattle.std.specs.Io.KnownBytes.{Consumes, IsAtEnd}
-use Rattle.run_edges.specs.Edges.{ConsumesMore}
 use Rattle.std.proofs.lemmas.Bool.{ltb-false, ltb-true}
-use Rattle.c_tokens.specs.declared.token.Spot.{Spot}
-use Rattle.c_tokens.specs.declared.token.Token.{Token}
-use Rattle.c_tokens.specs.declared.token.TokenFault.{TokenFault}
+use Rattle.ompt_cli.specs.Names.{ConsumesMore, Spot, Token, TokenFault, Reads, beginning, EndsIn, main_of, Tree}
+use Rattle.ompt_cli.specs.Names.{HasSyntaxFault, IsTreeOf, TreeView, root_tree, rule_fault_in, CheckFault}
 use Rattle.c_tokens.specs.workings.Tokens.{tokens_of}
-use Rattle.c_tokens.specs.language.Pieces.{Reads}
-use Rattle.c_tokens.specs.language.Places.{beginning}
-use Rattle.c_tokens.specs.language.Ending.{EndsIn}
 use Rattle.c_syntax.specs.declared.fault.SyntaxFault.{SyntaxFault}
-use Rattle.c_syntax.specs.language.Words.{main_of}
-use Rattle.c_syntax.specs.language.Tree.{Tree}
-use Rattle.c_syntax.specs.language.Texts.{HasSyntaxFault, Spells as IsTreeOf}
-use Rattle.c_tokens.proofs.Ending.{ends-one, read-or-ended, reads-no_end}
-use Rattle.c_tokens.proofs.Law.{reads-one}
-use Rattle.c_tokens.proofs.Spans.{tokens-end}
-use Rattle.c_syntax.specs.language.Numbered.{TreeView, root_tree}
-use Rattle.c_check.specs.Checked.{rule_fault, rule_fault_in}
+use Rattle.c_tokens.proofs.{Ending.ends-one, Ending.read-or-ended, Ending.reads-no_end, Law.reads-one, Spans.tokens-end}
+use Rattle.c_check.specs.Checked.{rule_fault}
 use Rattle.c_syntax.proofs.OneAnswer.{fault_one, not_both, tree_one, tree_or_fault}
-use Rattle.c_check.specs.declared.fault.CheckFault.{CheckFault}
-use Rattle.ompt_cli.specs.declared.end.Refusal.{Refusal}
+use Rattle.numbered_runs.specs.Alike.{AreAlike}
 use Rattle.ompt_cli.specs.declared.end.Refusal.TheVariants.{Tokens, Syntax, Rule, TooLong}
-use Rattle.ompt_cli.specs.declared.end.End.{End}
 use Rattle.ompt_cli.specs.declared.end.End.TheVariants.{Memory, Refused}
-use Rattle.ompt_cli.specs.declared.job.Loaded.{Loaded}
 use Rattle.ompt_cli.specs.Loading.{EndsFor, IsLoaded}
 use Rattle.ompt_cli.specs.Text.{HasTree, IsProgram, IsReadAs, IsRefused, Spells, end_at, end_of, rule_broken}
-use Rattle.numbered_runs.specs.Alike.{AreAlike}
+use Rattle.ompt_cli.specs.{declared.end.Refusal.Refusal, declared.end.End.End, declared.job.Loaded.Loaded}
 
 module _ (text : List ℕ) where
   -- a text has one list of tokens, with one tree

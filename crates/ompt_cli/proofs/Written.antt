@@ -2,39 +2,21 @@
 use Rattle.std.proofs.Common.{◌≡◌, ◌⊎◌, ℕ, List, [], ◌∷◌, ◌++◌, map, Option, Some, None, IsSomeAnd, Result, Ok, Err, inl, inr, refl, ap, subst, sym, ◌∙◌, arith}
 use Rattle.std.specs.Prelude.{IfErr, IfOk}
 use Rattle.std.specs.Io.KnownBytes.{Appends, Keeps}
-use Rattle.run_edges.specs.Edges.{AppendsFront, ConsumesMore}
-use Rattle.c_syntax.specs.language.Numbered.{TreeView}
-use Rattle.ompt_calls.specs.Item.{Item}
-use Rattle.ompt_calls.specs.Line.{line_text}
-use Rattle.omp_model.specs.Records.{lines_of, record_of}
-use Rattle.trace_format.specs.declared.refusal.Refusal.{Refusal}
-use Rattle.trace_format.specs.declared.trace.Trace.{Trace}
-use Rattle.trace_format.specs.Inputs.{IsRefusedInput}
-use Rattle.trace_format.specs.Refusing.{IsTruncated}
-use Rattle.trace_format.specs.Validity.{Writes}
-use Rattle.trace_format.proofs.Unique.{one_spelling}
-use Rattle.trace_format.proofs.Unrefused.{never_refused_trace}
-use Rattle.trace_check.specs.declared.breach.Breach.{Breach}
+use Rattle.ompt_cli.specs.Names.{AppendsFront, ConsumesMore, TreeView, Item, line_text, lines_of, record_of, Refusal}
+use Rattle.ompt_cli.specs.Names.{Trace, Writes, Breach, HasChecked, Nested, ReadCommand, Check, Migrate, Rerun, Show}
+use Rattle.ompt_cli.specs.Names.{Tasks, HasReadNested, IsForestText, HistoryFile, IsCertificate, run_of_file}
+use Rattle.ompt_cli.specs.Names.{WritesHistory}
 use Rattle.trace_check.specs.declared.checked.Checked.TheVariants as checks
-use Rattle.trace_check.specs.Answering.{HasChecked}
-use Rattle.trace_check.specs.Nested.{Broken as BreaksRule, Nested}
-use Rattle.ompt_words.specs.declared.settings.ReadCommand.{ReadCommand}
-use Rattle.ompt_words.specs.declared.settings.ReadCommand.TheVariants.{Check, Migrate, Rerun, Show, Tasks}
-use Rattle.tool_tasks.specs.Answering.{HasReadNested}
-use Rattle.tool_tasks.specs.Text.{IsForestText}
-use Rattle.history_file.specs.declared.file.HistoryFile.{HistoryFile}
-use Rattle.history_file.specs.declared.file.TheConstants.{HISTORY_LIMIT}
-use Rattle.history_file.specs.Certificates.{IsCertificate, run_of_file}
-use Rattle.history_file.specs.Validity.{WritesHistory}
-use Rattle.history_file.specs.Verdicts.{heard_call}
+use Rattle.trace_format.specs.{Inputs.IsRefusedInput, Refusing.IsTruncated}
+use Rattle.trace_format.proofs.{Unique.one_spelling, Unrefused.never_refused_trace}
+use Rattle.trace_check.specs.Nested.{Broken as BreaksRule}
+use Rattle.history_file.specs.{declared.file.TheConstants.HISTORY_LIMIT, Verdicts.heard_call}
 use Rattle.history_file.proofs.Lengths.{written_short}
 use Rattle.numbered_runs.proofs.Histories.{same_cause, same_legal}
-use Rattle.ompt_cli.specs.declared.end.End.{End}
 use Rattle.ompt_cli.specs.declared.end.End.TheVariants.{Broken, Memory, Read, TraceRefused, WriteFault}
-use Rattle.ompt_cli.specs.Commands.{HasWritten}
 use Rattle.ompt_cli.specs.Histories.{HasRerun, IsCertified, heard_text, lines_of_calls}
-use Rattle.ompt_cli.specs.Text.{Spells}
 use Rattle.ompt_cli.specs.Traces.{HasRead, HasTasks, IsNested}
+use Rattle.ompt_cli.specs.{declared.end.End.End, Commands.HasWritten, Text.Spells}
 use Rattle.ompt_cli.proofs.Reading.{longer, programs-alike}
 
 -- what is so of each of the three ends with what is written at it
@@ -127,8 +109,6 @@ pub trace_unbroken :
 trace_unbroken command left rest held after told trace breach is nested read same = by command (subst (λ (told : End). HasRead command told left rest held after) same read)
   where
     by : (command : ReadCommand) → HasRead command (Broken breach) left rest held after → ⊥
-    by Show read = read
-    by Migrate read = read
-    by Rerun read = read
     by Check (checked, kept) = nested-unbroken left rest trace breach is nested checked
     by Tasks (answered, kept) = nested-unbroken left rest trace breach is nested answered
+    by command read = read

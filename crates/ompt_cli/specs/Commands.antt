@@ -1,35 +1,16 @@
 -- What a command does: what its words and its text decide, what it reports of its run, and what it writes.
 use Rattle.std.specs.Prelude.{ℕ, ◌≤◌, length, ◌≡◌, ◌≢◌, ◌⊎◌, ⊤, IsSome, IsSomeAnd, List, [], ◌++◌, Option, Some, None, string_bytes}
-use Rattle.std.specs.Io.KnownBytes.{Appends, Keeps}
-use Rattle.std.specs.declared.string.String.{String}
-use Rattle.run_edges.specs.Edges.{AppendsFront, Rose}
-use Rattle.std.specs.declared.alloc.Global.{Global}
-use Rattle.c_syntax.specs.language.Numbered.{TreeView}
-use Rattle.omp_model.specs.declared.cause.Cause.{Cause}
+use Rattle.std.specs.{Io.KnownBytes.Appends, Io.KnownBytes.Keeps, declared.string.String.String, declared.alloc.Global.Global}
+use Rattle.ompt_cli.specs.Names.{AppendsFront, Rose, TreeView, Cause, Run, records_of, lines_of, after, EventRecord, generated, summary_of}
+use Rattle.ompt_cli.specs.Names.{AreShared, profile_of, SEQ_LIMIT, fields_of, spelling, trace_of, file_of, history_fields, history_spelling}
+use Rattle.ompt_cli.specs.Names.{Entry, Command, Generating, Recording, Running, Settings}
 use Rattle.omp_model.specs.declared.cause.Cause.TheVariants as cause
-use Rattle.omp_model.specs.State.{Run}
-use Rattle.omp_model.specs.Records.{records_of, lines_of}
-use Rattle.omp_model.specs.Legal.{after}
-use Rattle.team_run.specs.Program.{run_of_program}
-use Rattle.ompt_calls.specs.declared.event.EventRecord.{EventRecord}
-use Rattle.tool_report.specs.Generator.{generated, summary_of}
-use Rattle.tool_report.specs.Order.{AreShared}
-use Rattle.tool_report.specs.Profile.{profile_of}
-use Rattle.tool_report.specs.Timeline.{timeline_of}
-use Rattle.trace_format.specs.declared.trace.TheConstants.{SEQ_LIMIT}
-use Rattle.trace_format.specs.Fields.{fields_of, spelling}
-use Rattle.run_trace.specs.TraceOf.{trace_of}
-use Rattle.history_file.specs.Certificates.{file_of}
-use Rattle.history_file.specs.Fields.{fields_of as history_fields, spelling as history_spelling}
-use Rattle.omp_model.specs.declared.history.Entry.{Entry}
-use Rattle.ompt_words.specs.declared.settings.Command.{Command}
-use Rattle.ompt_words.specs.declared.settings.Command.TheVariants.{Generate as Generating, List as Listing, Profile as Profiling, Record as Recording, Run as Running, Timeline as Timelining}
 use Rattle.ompt_words.specs.declared.settings.RunOutput.TheVariants as output
-use Rattle.ompt_words.specs.declared.settings.Settings.{Settings}
-use Rattle.ompt_cli.specs.declared.end.Refusal.{Refusal}
-use Rattle.ompt_cli.specs.declared.end.End.{End}
+use Rattle.tool_report.specs.Timeline.{timeline_of}
+use Rattle.ompt_words.specs.declared.settings.Command.TheVariants.{List as Listing, Profile as Profiling, Timeline as Timelining}
+use Rattle.team_run.specs.Program.{run_of_program}
 use Rattle.ompt_cli.specs.declared.end.End.TheVariants.{Ended, Shown, Usage, Refused, ReadFault, WriteFault, Memory}
-use Rattle.ompt_cli.specs.declared.report.Report.{Report}
+use Rattle.ompt_cli.specs.{declared.end.Refusal.Refusal, declared.end.End.End, declared.report.Report.Report}
 
 -- the program that ran, by its tree and by its text. A guest of the report is a box of a vtable and what lies behind it
 abbrev pub program_in : {Table : Type 0} {Behind : Table → Type 0} → Report Table Behind → TreeView

@@ -1,27 +1,13 @@
 -- What guests stand for after a run: guest t was the part of thread t.
 use Rattle.std.specs.Prelude.{ℕ, ◌≡◌, ◌≢◌, ◌<◌, ◌≤◌, ◌||◌, Bool, false, List, [], ◌∷◌, length, slice_index_or}
-use Rattle.omp_codes.specs.declared.callbacks.TheConstants.{PROFILE_MASK}
-use Rattle.ompt_calls.specs.Number.{is_registered}
-use Rattle.tool_api.specs.Record.{IsUncalled, Record}
-use Rattle.tool_api.specs.declared.handed.Handed.{Handed}
+use Rattle.std.specs.{declared.alloc.Global.Global, declared.dyn_box.DynBox.DynBox}
+use Rattle.ompt_cli.specs.Names.{PROFILE_MASK, is_registered, IsUncalled, Record, Handed, Cause, Entry, Run, heard_of, mask_of, HasHeard}
+use Rattle.ompt_cli.specs.Names.{HasStarted, Command, Running}
 use Rattle.tool_api.specs.declared.handed.Handed.TheVariants as held
-use Rattle.omp_model.specs.declared.cause.Cause.{Cause}
 use Rattle.omp_model.specs.declared.cause.Cause.TheVariants as causes
-use Rattle.omp_model.specs.declared.history.Entry.{Entry}
-use Rattle.omp_model.specs.State.{Run}
-use Rattle.omp_model.specs.Heard.{heard_of}
-use Rattle.team_run.specs.Serving.{Becomes, called_for, record_of_first}
-use Rattle.tool_api.specs.Registering.{mask_of}
-use Rattle.team_run.specs.Standing.{AreSilent}
-use Rattle.team_run.specs.Unheard.{AreUnheard}
-use Rattle.tool_profiled.specs.Hearing.{HasHeard, HasStarted}
-use Rattle.ompt_words.specs.declared.settings.Command.{Command}
-use Rattle.ompt_words.specs.declared.settings.Command.TheVariants.{Run as Running}
 use Rattle.ompt_words.specs.declared.settings.RunOutput.TheVariants as output
-use Rattle.std.specs.declared.alloc.Global.{Global}
-use Rattle.std.specs.declared.dyn_box.DynBox.{DynBox}
-use Rattle.ompt_cli.specs.declared.report.Report.{Report}
-use Rattle.ompt_cli.specs.Commands.{run_of}
+use Rattle.team_run.specs.{Serving.Becomes, Serving.called_for, Serving.record_of_first, Standing.AreSilent, Unheard.AreUnheard}
+use Rattle.ompt_cli.specs.{declared.report.Report.Report, Commands.run_of}
 
 -- guest 0 was started, with this answer and these callbacks registered, called for what thread 0 heard, and finished after all
 -- that where it is active; guest t was called for what thread t heard; those past the threads are as they were. Beside that a guest

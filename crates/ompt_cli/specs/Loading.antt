@@ -1,11 +1,7 @@
 -- What a command comes to that has a text to run: the program that it spells, or an end before a run.
 use Rattle.std.specs.Prelude.{ℕ, ◌≡◌, List, Option, IfSome, IsSomeAnd}
-use Rattle.ompt_cli.specs.declared.end.Refusal.{Refusal}
-use Rattle.ompt_cli.specs.declared.end.End.{End}
-use Rattle.ompt_cli.specs.declared.end.End.TheVariants.{Refused}
-use Rattle.ompt_cli.specs.declared.job.Loaded.{Loaded}
-use Rattle.ompt_cli.specs.Commands.{IsBeforeRun, MayRefuse, MayRun}
-use Rattle.ompt_cli.specs.Text.{IsProgram, IsRefused, Spells}
+use Rattle.ompt_cli.specs.{Commands.IsBeforeRun, Commands.MayRefuse, Commands.MayRun, declared.end.Refusal.Refusal, declared.end.End.End}
+use Rattle.ompt_cli.specs.{declared.end.End.TheVariants.Refused, declared.job.Loaded.Loaded, Text.IsProgram, Text.IsRefused, Text.Spells}
 
 -- this was loaded of the text: a program that it spells
 pub record IsLoaded (text : Option (List ℕ)) (loaded : Loaded) : Type 0 where

@@ -1,31 +1,15 @@
 -- What a report says of its run.
 use Rattle.std.specs.Prelude.{ℕ, ◌≡◌, ◌≢◌, List, Option, Some}
-use Rattle.std.specs.declared.alloc.Global.{Global}
-use Rattle.std.specs.declared.dyn_box.DynBox.{DynBox}
-use Rattle.omp_codes.specs.declared.callbacks.TheConstants.{PROFILE_MASK}
+use Rattle.std.specs.{declared.alloc.Global.Global, declared.dyn_box.DynBox.DynBox}
+use Rattle.ompt_cli.specs.Names.{PROFILE_MASK, after, records_of, EventRecord, AreKept, Record, Recording, Running, trace_of, IsTrace}
+use Rattle.ompt_cli.specs.Names.{IsCertificate, IsHistoryFile}
 use Rattle.omp_model.specs.declared.cause.Cause.TheVariants as cause
-use Rattle.omp_model.specs.Legal.{after}
-use Rattle.omp_model.specs.Records.{records_of}
-use Rattle.ompt_calls.specs.declared.event.EventRecord.{EventRecord}
-use Rattle.tool_report.specs.Order.{AreKept}
-use Rattle.tool_api.specs.Record.{Record}
-use Rattle.team_run.specs.Serving.{AreSame, RunsParts}
-use Rattle.team_run.specs.Standing.{HearsOwn, HearsSilent}
-use Rattle.ompt_words.specs.declared.settings.Command.TheVariants.{Record as Recording, Run as Running}
 use Rattle.ompt_words.specs.declared.settings.RunOutput.TheVariants as output
-use Rattle.ompt_cli.specs.declared.report.Report.{Report}
-use Rattle.ompt_cli.specs.declared.observing.Observed.{Observed}
-use Rattle.ompt_cli.specs.declared.job.Job.{Job}
-use Rattle.run_trace.specs.TraceOf.{trace_of}
-use Rattle.trace_format.specs.Validity.{IsTrace}
-use Rattle.ompt_cli.specs.declared.end.End.{End}
+use Rattle.team_run.specs.{Serving.AreSame, Serving.RunsParts, Standing.HearsOwn, Standing.HearsSilent}
 use Rattle.ompt_cli.specs.declared.end.End.TheVariants.{Memory, WriteFault}
-use Rattle.history_file.specs.Certificates.{IsCertificate}
-use Rattle.history_file.specs.Validity.{IsHistoryFile}
 use Rattle.ompt_cli.specs.Commands.{CountsFaults, EndsAs, HasGuests, HasWritten, program_in, run_of, run_text, settings_in, text_in}
-use Rattle.ompt_cli.specs.Guests.{GuestsAfter}
-use Rattle.ompt_cli.specs.Histories.{file_of_report}
-use Rattle.ompt_cli.specs.Runs.{RunsTo}
+use Rattle.ompt_cli.specs.{declared.report.Report.Report, declared.observing.Observed.Observed, declared.job.Job.Job, declared.end.End.End}
+use Rattle.ompt_cli.specs.{Guests.GuestsAfter, Histories.file_of_report, Runs.RunsTo}
 
 -- the report is of a run of this job
 pub record Observes {Table : Type 0} {Behind : Table → Type 0} (job : Job) (report : Report Table Behind) : Type 0 where

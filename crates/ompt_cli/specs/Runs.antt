@@ -1,15 +1,9 @@
 -- What a run gives, whether one thread has all turns in the serial order or each thread number has a thread of its own.
 use Rattle.std.specs.Prelude.{ℕ, ⊤, ◌≡◌, ◌≢◌, ◌<◌, Bool, true, List, [], Some, None}
-use Rattle.omp_model.specs.declared.cause.Cause.{Cause}
+use Rattle.ompt_cli.specs.Names.{Cause, Entry, Run, pending_at, cause_of, threads_over, main_returned, Legal, after, Serial, AreAlways}
 use Rattle.omp_model.specs.declared.cause.Cause.TheVariants as causes
-use Rattle.omp_model.specs.declared.history.Entry.{Entry}
-use Rattle.omp_model.specs.State.{Run, pending_at}
-use Rattle.omp_model.specs.Cause.{cause_of, threads_over}
-use Rattle.omp_model.specs.Gates.{main_returned}
-use Rattle.omp_model.specs.Legal.{Legal, after}
-use Rattle.omp_model.specs.Serial.{Serial, serial}
+use Rattle.omp_model.specs.Serial.{serial}
 use Rattle.team_run.specs.Standing.{HearsSilent}
-use Rattle.tool_api.specs.Registering.{AreAlways}
 
 -- every thread that was made has ended, and main has returned
 pub record IsWhole (run : Run) (history : List Entry) : Type 0 where

@@ -1,22 +1,9 @@
 -- The texts that run, with their programs, and the refusals of all others.
 use Rattle.std.specs.Prelude.{ℕ, ◌≡◌, ◌<◌, ◌≤◌, List, [], ◌∷◌, length, Option, Some, None}
-use Rattle.ompt_cli.specs.declared.end.Refusal.{Refusal}
-use Rattle.ompt_cli.specs.declared.end.Refusal.TheVariants.{Tokens, Syntax, Rule, TooLong}
-use Rattle.c_tokens.specs.declared.token.Spot.{Spot}
-use Rattle.c_tokens.specs.declared.token.Token.{Token}
-use Rattle.c_tokens.specs.declared.token.TokenFault.{TokenFault}
-use Rattle.c_tokens.specs.language.Places.{beginning}
-use Rattle.c_tokens.specs.language.Pieces.{Reads}
-use Rattle.c_tokens.specs.language.Ending.{EndsIn}
-use Rattle.c_syntax.specs.language.Words.{main_of}
-use Rattle.c_syntax.specs.language.Tree.{Tree}
-use Rattle.c_syntax.specs.language.Numbered.{TreeView, root_tree}
-use Rattle.c_syntax.specs.language.Texts.{HasSyntaxFault, Spells as IsTreeOf}
-use Rattle.c_check.specs.declared.fault.CheckFault.{CheckFault}
-use Rattle.c_check.specs.Checked.{rule_fault_in}
-use Rattle.tool_report.specs.Generator.{generated}
-use Rattle.ompt_words.specs.declared.settings.Command.{Command}
+use Rattle.ompt_cli.specs.Names.{Spot, Token, TokenFault, beginning, Reads, EndsIn, main_of, Tree, TreeView, root_tree, HasSyntaxFault}
+use Rattle.ompt_cli.specs.Names.{IsTreeOf, CheckFault, rule_fault_in, generated, Command}
 use Rattle.ompt_words.specs.declared.settings.Command.TheVariants.{Generate}
+use Rattle.ompt_cli.specs.declared.end.Refusal.{Refusal, TheVariants.Tokens, TheVariants.Syntax, TheVariants.Rule, TheVariants.TooLong}
 
 -- the text that a command runs: what the source has left, and of `gen` the generated program
 abbrev pub text_for : Command → Option (List ℕ) → Option (List ℕ)

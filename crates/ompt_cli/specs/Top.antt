@@ -1,37 +1,20 @@
 -- What the top call says of its words, its run, its text, and what it touched, each as one record.
 use Rattle.std.specs.Prelude.{ℕ, ◌≡◌, ◌≢◌, ◌<◌, ◌⊎◌, ◌↔◌, true, List, [], Option, Some, IfSome, IsSome, IsNone, IsSomeAnd}
-use Rattle.std.specs.declared.string.String.{String}
-use Rattle.std.specs.declared.alloc.Global.{Global}
-use Rattle.run_edges.specs.Edges.{Rose}
-use Rattle.omp_codes.specs.declared.callbacks.TheConstants.{PROFILE_MASK}
-use Rattle.tool_api.specs.Registering.{AreAlways}
-use Rattle.omp_model.specs.declared.cause.Cause.{Cause}
+use Rattle.std.specs.{declared.string.String.String, declared.alloc.Global.Global}
+use Rattle.ompt_cli.specs.Names.{Rose, PROFILE_MASK, AreAlways, Cause, cause_of, Legal, Serial, trace_of, IsTrace, IsCertificate}
+use Rattle.ompt_cli.specs.Names.{WritesHistory, AreReadAs, AreWrong, AskForText, HoldBoth, AskInForm, InForm, own_settings, Generating}
+use Rattle.ompt_cli.specs.Names.{Recording, Running, Settings, ReadCommand}
 use Rattle.omp_model.specs.declared.cause.Cause.TheVariants as causes
-use Rattle.omp_model.specs.Cause.{cause_of}
-use Rattle.omp_model.specs.Legal.{Legal}
-use Rattle.omp_model.specs.Serial.{Serial, WholeSerial, serial as history_of_serial}
-use Rattle.team_run.specs.Standing.{HearsSilent}
-use Rattle.run_trace.specs.TraceOf.{trace_of}
-use Rattle.trace_format.specs.Validity.{IsTrace}
-use Rattle.history_file.specs.Certificates.{IsCertificate}
-use Rattle.history_file.specs.Validity.{WritesHistory}
-use Rattle.ompt_words.specs.Answers.{AreReadAs, AreWrong, AskForText, HoldBoth}
-use Rattle.ompt_words.specs.Form.{AskInForm, InForm, own_settings}
-use Rattle.ompt_words.specs.declared.settings.Command.TheVariants.{Generate as Generating, Record as Recording, Run as Running}
 use Rattle.ompt_words.specs.declared.settings.Request.TheVariants as request
-use Rattle.ompt_words.specs.declared.settings.Settings.{Settings}
-use Rattle.ompt_words.specs.declared.settings.ReadCommand.{ReadCommand}
 use Rattle.ompt_words.specs.declared.settings.RunOutput.TheVariants as output
-use Rattle.ompt_cli.specs.Commands.{EndsAs, EndsRun, HasOutput, HasWritten, IsReading, IsShowing, HasGuests, IsUnread, MayRefuse, MayRun, out_of, program_in, run_of, run_text, settings_in, text_in}
-use Rattle.ompt_cli.specs.Runs.{AreOutside, IsReturn, IsWhole}
-use Rattle.ompt_cli.specs.Histories.{file_of_report}
-use Rattle.ompt_cli.specs.Text.{IsProgram, IsRefused, Spells, text_for}
-use Rattle.ompt_cli.specs.Traces.{HasReadInput, IsNested}
-use Rattle.ompt_cli.specs.Words.{AskFor, AskForRun, AskToRead}
-use Rattle.ompt_cli.specs.declared.end.End.{End}
+use Rattle.omp_model.specs.Serial.{WholeSerial, serial as history_of_serial}
+use Rattle.team_run.specs.Standing.{HearsSilent}
+use Rattle.ompt_cli.specs.Commands.{EndsAs, EndsRun, HasOutput, HasWritten, IsReading, IsShowing, HasGuests, IsUnread, MayRefuse, MayRun}
+use Rattle.ompt_cli.specs.Commands.{out_of, program_in, run_of, run_text, settings_in, text_in}
 use Rattle.ompt_cli.specs.declared.end.End.TheVariants.{Ended, Shown, Usage, Refused, ReadFault, WriteFault, Memory}
-use Rattle.ompt_cli.specs.declared.end.Refusal.{Refusal}
-use Rattle.ompt_cli.specs.declared.report.Report.{Report}
+use Rattle.ompt_cli.specs.{Runs.AreOutside, Runs.IsReturn, Runs.IsWhole, Histories.file_of_report, Text.IsProgram, Text.IsRefused}
+use Rattle.ompt_cli.specs.{Text.Spells, Text.text_for, Traces.HasReadInput, Traces.IsNested, Words.AskFor, Words.AskForRun, Words.AskToRead}
+use Rattle.ompt_cli.specs.{declared.end.End.End, declared.end.Refusal.Refusal, declared.report.Report.Report}
 
 -- What the words decide: which of a run, a text that is shown and a trace or a history file that is read is there, one at most, and which
 -- ends there may be. Words are refused only where clap may find a mistake in them, or where they are `run` with both `--history` and

@@ -1,28 +1,15 @@
 -- What a command that reads a trace or a history file has read and written, by how it ended.
 use Rattle.std.specs.Prelude.{ℕ, ◌≡◌, ◌≢◌, IsSomeAnd, List, [], ◌∷◌, ◌++◌, Option, Ok, Err, codes}
 use Rattle.std.specs.Io.KnownBytes.{Appends, Keeps}
-use Rattle.run_edges.specs.Edges.{AppendsFront}
+use Rattle.ompt_cli.specs.Names.{AppendsFront, Writes, Refusal, Trace, Breach, HasChecked, Nested, HasReadNested, IsForestText, ReadCommand}
+use Rattle.ompt_cli.specs.Names.{Check, Migrate, Rerun, Show, Tasks, HistoryFile, WritesHistory}
 use Rattle.trace_check.specs.declared.checked.Checked.TheVariants as checked
-use Rattle.trace_format.specs.Validity.{Writes}
-use Rattle.trace_format.specs.declared.refusal.Refusal.{Refusal}
-use Rattle.trace_format.specs.declared.trace.Trace.{Trace}
-use Rattle.trace_check.specs.declared.breach.Breach.{Breach}
-use Rattle.trace_check.specs.Answering.{HasChecked}
-use Rattle.trace_check.specs.Nested.{Nested}
 use Rattle.trace_copy.specs.declared.copied.Copied.TheVariants as copied
-use Rattle.trace_copy.specs.declared.form.Form.{Form}
-use Rattle.trace_copy.specs.declared.form.Form.TheVariants.{Lines, SecondVersion}
-use Rattle.trace_copy.specs.Copying.{HasCopied}
 use Rattle.tool_tasks.specs.declared.unread.Unread.TheVariants as unread
-use Rattle.tool_tasks.specs.Answering.{HasReadNested}
-use Rattle.tool_tasks.specs.Text.{IsForestText}
-use Rattle.ompt_words.specs.declared.settings.ReadCommand.{ReadCommand}
-use Rattle.ompt_words.specs.declared.settings.ReadCommand.TheVariants.{Check, Migrate, Rerun, Show, Tasks}
-use Rattle.history_file.specs.declared.file.HistoryFile.{HistoryFile}
-use Rattle.history_file.specs.Validity.{WritesHistory}
-use Rattle.ompt_cli.specs.Histories.{Certifies, HasRerun, MayCertify}
-use Rattle.ompt_cli.specs.declared.end.End.{End}
+use Rattle.trace_copy.specs.declared.form.Form.TheVariants.{Lines, SecondVersion}
+use Rattle.trace_copy.specs.{declared.form.Form.Form, Copying.HasCopied}
 use Rattle.ompt_cli.specs.declared.end.End.TheVariants.{Read, TraceRefused, Broken, ReadFault, WriteFault, Memory}
+use Rattle.ompt_cli.specs.{Histories.Certifies, Histories.HasRerun, Histories.MayCertify, declared.end.End.End}
 
 -- the trace breaks no rule of the checker
 abbrev pub IsNested : Trace → Type 0

@@ -2,24 +2,21 @@
 
 ghost use Rattle.std.specs.Prelude.{ℕ, ◌≡◌, IfOk, IfSome, List, OnErr};
 ghost use Rattle.ompt_words.specs.declared.settings.Request.TheVariants as request;
-ghost use Rattle.ompt_cli.specs.Guests.{GuestsAfter};
-ghost use Rattle.ompt_cli.specs.Reports.{Reports};
-ghost use Rattle.ompt_cli.specs.Top.{CarriesOut};
 ghost use Rattle.ompt_cli.specs.Words.{AreInRange, AreTakenAs};
+ghost use Rattle.ompt_cli.specs.{Guests.GuestsAfter, Reports.Reports, Top.CarriesOut};
 
 use crate::end::End;
+use crate::guests::Guests;
 use crate::job::Job;
-use crate::outcome::{AfterRun, Outcome, without_run};
-use crate::profiling::run_profiled;
 use crate::recording::record;
+use crate::report::{AfterRun, Outcome, without_run};
 use crate::reporting::report_kept;
-use crate::run::{run_history, run_printed};
+use crate::run::{run_history, run_printed, run_profiled};
 use crate::runner::Runner;
 use crate::text::program_for;
 use ompt_words::{Command, RunOutput, Settings};
 use run_edges::{Sink, Source};
 use std::alloc::AllocError;
-use tool_api::GuestTool;
 use tool_report::{Profile, Recorder, Timeline};
 
 /// Reads the program, or makes it for `gen`, runs it with these settings, and writes what the command writes.
@@ -28,7 +25,7 @@ pub(crate) fn run_settings<X: Runner, S: Source, O: Sink>(
     settings: Settings,
     source: &mut S,
     out: &mut O,
-    guests: Vec<Box<dyn GuestTool>>,
+    guests: Guests,
 ) -> Outcome
     requires kind { X.may_run runner.now settings.serial }
     requires range { AreInRange settings }
@@ -57,7 +54,7 @@ pub(crate) fn run_settings<X: Runner, S: Source, O: Sink>(
 fn run_command<X: Runner, O: Sink>(
     runner: &X,
     job: Job,
-    guests: Vec<Box<dyn GuestTool>>,
+    guests: Guests,
     out: &mut O,
 ) -> Result<AfterRun, AllocError>
     requires { X.may_run runner.now job.settings.serial }

@@ -1,8 +1,8 @@
 //! How a command ended: its status and its line on standard error.
 
-ghost use Rattle.std.specs.Prelude.{◌≡◌, ◌≤◌, ◌+◌, ◌∷◌, ◌++◌, [], codes, length};
+ghost use Rattle.std.specs.Prelude.{◌≡◌, ◌≤◌, ◌∷◌, ◌++◌, [], codes, length};
 ghost use Rattle.std.specs.Fmt.{decimal, signed_decimal};
-ghost use Rattle.arrayvec.specs.ArrayString.{array_string_len};
+ghost use Rattle.std.specs.Process.{exit_status};
 ghost use Rattle.run_trace.specs.TraceOf.{status_of as status_of_cause};
 ghost use Rattle.ompt_cli.specs.Ends.{line_at, line_of_cause, line_of_end, refusal_at, refusal_text, status_of};
 
@@ -13,7 +13,10 @@ use c_tokens::{NOWHERE, Spot, TokenFault};
 use history_file::HistoryReason;
 use itoa::Buffer;
 use omp_model::Cause;
+use run_edges::{Sink, write_all};
+use std::process::ExitCode;
 use trace_check::Breach;
+use trace_copy::push_number;
 
 /// Why a text is refused.
 #[derive(Clone, Copy, PartialEq, Eq)]
@@ -101,6 +104,14 @@ impl End {
             End::WriteFault => line_of("write fault\n"),
             End::Memory => line_of("memory\n"),
         }
+    }
+
+    /// Tells the end by its line, and is the end of a program with its status, also where the line can't be written.
+    pub fn exit<E: Sink>(self, err: &mut E) -> ExitCode
+        ensures { exit_status result ≡ status_of self }
+    {
+        let _line = write_all(err, self.line().as_str().as_bytes());
+        ExitCode::from(self.status())
     }
 }
 
@@ -211,14 +222,4 @@ fn line_of(text: &str) -> ArrayString<160>
     let mut line = ArrayString::new();
     line.push_str(text);
     line
-}
-
-/// Adds a number in decimal.
-fn push_number(line: &mut ArrayString<160>, number: u32)
-    requires { array_string_len line.old + 40 ≤ 160 }
-    ensures bytes { line.new.bytes ≡ line.old.bytes ++ decimal number }
-    ensures few { array_string_len line.new ≤ array_string_len line.old + 40 }
-{
-    let mut digits = Buffer::new();
-    line.push_str(digits.format(number));
 }

@@ -7,6 +7,12 @@ use ompt_calls::{Call, Reply, Snapshot};
 use std::alloc::{AllocError, Global};
 use tool_api::{GuestTool, Handed, Memory, Quiet, Registrar, ToolPart};
 
+/// Guests, in their order.
+pub(crate) type Guests = Vec<Box<dyn GuestTool>>;
+
+/// The part of a thread: that of a guest, or none.
+pub(crate) type Held = Handed<GuestPart>;
+
 /// A part that hands each call on to a guest, and stands for what the guest stands for. It is a type of this crate, since
 /// what a function of another crate does with a box isn't seen here: the box that comes back could be any other.
 #[derive(Drop)]
@@ -46,15 +52,15 @@ impl ToolPart for GuestPart {
 /// The parts of the threads, and the guests that are left, the next one last. There is room for all the guests to wait again.
 #[derive(Drop)]
 pub(crate) struct Handing {
-    pub parts: Vec<Handed<GuestPart>>,
-    pub waiting: Vec<Box<dyn GuestTool>>,
+    pub parts: Vec<Held>,
+    pub waiting: Guests,
 }
 
 /// A part for each thread: guest t for thread t, and none for threads past the guests.
 pub(crate) fn hand_out_all(
     alloc: Global,
     threads: u8,
-    guests: Vec<Box<dyn GuestTool>>,
+    guests: Guests,
 ) -> Result<Handing, AllocError>
     ensures handed { IfOk result (λ handing.
         HandOut (λ guest. guest.0) guests.items handing.parts.items (reverse handing.waiting.items)) }
@@ -72,10 +78,7 @@ pub(crate) fn hand_out_all(
 }
 
 /// The guests that these parts hold, and behind them those that are left.
-pub(crate) fn take_back_all(
-    parts: Vec<Handed<GuestPart>>,
-    waiting: Vec<Box<dyn GuestTool>>,
-) -> Vec<Box<dyn GuestTool>>
+pub(crate) fn take_back_all(parts: Vec<Held>, waiting: Guests) -> Guests
     requires { vec_len waiting + length parts.items ≤ vec_capacity waiting }
     ensures { result.items ≡ guests_of (λ guest. guest.0) parts.items ++ reverse waiting.items }
 {
@@ -88,7 +91,7 @@ pub(crate) fn take_back_all(
 }
 
 /// The part of the next thread: the guest that waits next, which is the last one of the list, or none where no more wait.
-fn next_part(waiting: &mut Vec<Box<dyn GuestTool>>) -> Handed<GuestPart>
+fn next_part(waiting: &mut Guests) -> Held
     ensures { HandOut (λ guest. guest.0) (reverse waiting.old.items) (result ∷ []) (reverse waiting.new.items) }
 {
     match waiting.pop() {
@@ -98,7 +101,7 @@ fn next_part(waiting: &mut Vec<Box<dyn GuestTool>>) -> Handed<GuestPart>
 }
 
 /// The guest that the part holds, if it holds one, waits as the next one.
-fn wait_again(part: Handed<GuestPart>, waiting: &mut Vec<Box<dyn GuestTool>>)
+fn wait_again(part: Held, waiting: &mut Guests)
     requires { vec_len waiting.old + 1 ≤ vec_capacity waiting.old }
     ensures waits { reverse waiting.new.items ≡ guests_of (λ guest. guest.0) (part ∷ []) ++ reverse waiting.old.items }
     ensures len { vec_len waiting.new ≤ vec_len waiting.old + 1 }

@@ -1,16 +1,14 @@
 //! The history of a run, as a file that others can check.
 
 ghost use Rattle.std.specs.Prelude.{◌≡◌, ◌≢◌, ◌≤◌, ◌⊎◌, All, Some, length};
-ghost use Rattle.history_file.specs.declared.file.TheConstants.{ENTRY_LIMIT};
+ghost use Rattle.ompt_cli.specs.Names.{FitsFile};
 ghost use Rattle.history_file.specs.Fields.{fields_of, spelling};
-ghost use Rattle.history_file.specs.Fitting.{FitsFile, HasThread};
-ghost use Rattle.ompt_cli.specs.declared.job.Job.{Job};
+ghost use Rattle.history_file.specs.{declared.file.TheConstants.ENTRY_LIMIT, Fitting.HasThread};
 ghost use Rattle.ompt_cli.specs.Commands.{CountsFaults, EndsAs, HasWritten, run_text, text_in};
-ghost use Rattle.ompt_cli.specs.Reports.{HasCertificate, Observes};
+ghost use Rattle.ompt_cli.specs.{declared.job.Job.Job, Reports.HasCertificate, Reports.Observes};
 
 use crate::end::End;
-use crate::outcome::AfterRun;
-use crate::report::Report;
+use crate::report::{AfterRun, Report};
 use history_file::{FileText, HistoryFile, end_of, write_history};
 use omp_model::Cause;
 use ompt_words::{Command, RunOutput};

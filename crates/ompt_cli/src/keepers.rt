@@ -2,23 +2,20 @@
 
 ghost use Rattle.std.specs.Prelude.{ℕ, ◌≡◌, ◌↔◌, IfOk, List, [], length, replicate, true};
 ghost use Rattle.std.specs.Thread.{IsSync};
-ghost use Rattle.tool_api.specs.Record.{Record};
-ghost use Rattle.ompt_calls.specs.declared.event.EventRecord.{EventRecord};
-ghost use Rattle.tool_report.specs.Generator.{generated, summary_of};
-ghost use Rattle.tool_report.specs.Order.{AreKept, AreShared};
-ghost use Rattle.tool_report.specs.KeeperRelation.{KeeperFor};
+ghost use Rattle.ompt_cli.specs.Names.{Record, EventRecord, generated, summary_of, AreKept, AreShared, KeeperFor};
 ghost use Rattle.ompt_words.specs.declared.settings.Command.{Command as SeenCommand};
-ghost use Rattle.ompt_cli.specs.Commands.{columns_in};
-ghost use Rattle.ompt_cli.specs.Reports.{HasObserved};
+ghost use Rattle.ompt_cli.specs.{Commands.columns_in, Reports.HasObserved};
 
+use crate::guests::Guests;
 use crate::job::Job;
-use crate::observing::{Observed, observe, observe_alone};
+use crate::observing::{Seen, observe, observe_alone};
+use crate::writing::Made;
 use ompt_words::Command;
 use std::alloc::{AllocError, Global};
 use std::mem;
 use std::sync::Wait;
 use std::thread::Threads;
-use tool_api::{GuestTool, ToolPart};
+use tool_api::ToolPart;
 use tool_report::{
     Profile, Recorder, Timeline, generated_text, lines_text, merge, profile_text, summary_text,
     timeline_text,
@@ -37,23 +34,13 @@ pub(crate) trait Keeper: ToolPart {
         ensures { result ≡ keep [] };
 
     /// What the command makes of what these parts keep and of what the program printed.
-    fn text(
-        alloc: Global,
-        command: Command,
-        parts: &[Self],
-        printed: &[u8],
-    ) -> Result<Vec<u8>, AllocError>
+    fn text(alloc: Global, command: Command, parts: &[Self], printed: &[u8]) -> Made
         ensures { IfOk result (λ text. (events : List EventRecord) → AreKept keep events parts.now →
             text.items ≡ text_of command events printed.now) };
 
     /// Runs the job, which is serial, with the parts of this list, which it takes out of it. Parts may be sent to
     /// threads, and nothing says of a type parameter of a method that it may be sent. So each kind makes its own runs.
-    fn run_alone(
-        alloc: Global,
-        job: Job,
-        parts: &mut Vec<Self>,
-        guests: Vec<Box<dyn GuestTool>>,
-    ) -> Result<Observed<Self>, AllocError>
+    fn run_alone(alloc: Global, job: Job, parts: &mut Vec<Self>, guests: Guests) -> Seen<Self>
         requires serial { job.settings.serial ≡ true }
         requires parts { length parts.old.items ≡ job.settings.threads }
         ensures observed { IfOk result (HasObserved Self.stands_for Self.same job parts.old.items) }
@@ -65,8 +52,8 @@ pub(crate) trait Keeper: ToolPart {
         alloc: Global,
         job: Job,
         parts: &mut Vec<Self>,
-        guests: Vec<Box<dyn GuestTool>>,
-    ) -> Result<Observed<Self>, AllocError>
+        guests: Guests,
+    ) -> Seen<Self>
         requires sync { IsSync R.row }
         requires parts { length parts.old.items ≡ job.settings.threads }
         ensures observed { IfOk result (HasObserved Self.stands_for Self.same job parts.old.items) }
@@ -86,24 +73,14 @@ impl Keeper for Recorder {
         Recorder::new(alloc)
     }
 
-    fn text(
-        alloc: Global,
-        command: Command,
-        parts: &[Recorder],
-        printed: &[u8],
-    ) -> Result<Vec<u8>, AllocError> {
+    fn text(alloc: Global, command: Command, parts: &[Recorder], printed: &[u8]) -> Made {
         match command {
             Command::Generate(blocks) => summary(alloc, blocks, parts, printed),
             _ => lines_text(alloc, parts),
         }
     }
 
-    fn run_alone(
-        alloc: Global,
-        job: Job,
-        parts: &mut Vec<Recorder>,
-        guests: Vec<Box<dyn GuestTool>>,
-    ) -> Result<Observed<Recorder>, AllocError> {
+    fn run_alone(alloc: Global, job: Job, parts: &mut Vec<Self>, guests: Guests) -> Seen<Self> {
         observe_alone(alloc, job, mem::replace(parts, Vec::new(alloc)), guests)
     }
 
@@ -111,9 +88,9 @@ impl Keeper for Recorder {
         rt: &R,
         alloc: Global,
         job: Job,
-        parts: &mut Vec<Recorder>,
-        guests: Vec<Box<dyn GuestTool>>,
-    ) -> Result<Observed<Recorder>, AllocError> {
+        parts: &mut Vec<Self>,
+        guests: Guests,
+    ) -> Seen<Self> {
         observe(rt, alloc, job, mem::replace(parts, Vec::new(alloc)), guests)
     }
 
@@ -132,21 +109,11 @@ impl Keeper for Profile {
         Profile::new()
     }
 
-    fn text(
-        alloc: Global,
-        _command: Command,
-        parts: &[Profile],
-        _printed: &[u8],
-    ) -> Result<Vec<u8>, AllocError> {
+    fn text(alloc: Global, _command: Command, parts: &[Profile], _printed: &[u8]) -> Made {
         profile_text(alloc, parts)
     }
 
-    fn run_alone(
-        alloc: Global,
-        job: Job,
-        parts: &mut Vec<Profile>,
-        guests: Vec<Box<dyn GuestTool>>,
-    ) -> Result<Observed<Profile>, AllocError> {
+    fn run_alone(alloc: Global, job: Job, parts: &mut Vec<Self>, guests: Guests) -> Seen<Self> {
         observe_alone(alloc, job, mem::replace(parts, Vec::new(alloc)), guests)
     }
 
@@ -154,9 +121,9 @@ impl Keeper for Profile {
         rt: &R,
         alloc: Global,
         job: Job,
-        parts: &mut Vec<Profile>,
-        guests: Vec<Box<dyn GuestTool>>,
-    ) -> Result<Observed<Profile>, AllocError> {
+        parts: &mut Vec<Self>,
+        guests: Guests,
+    ) -> Seen<Self> {
         observe(rt, alloc, job, mem::replace(parts, Vec::new(alloc)), guests)
     }
 
@@ -176,24 +143,14 @@ impl Keeper for Timeline {
         Timeline::new(alloc)
     }
 
-    fn text(
-        alloc: Global,
-        command: Command,
-        parts: &[Timeline],
-        _printed: &[u8],
-    ) -> Result<Vec<u8>, AllocError> {
+    fn text(alloc: Global, command: Command, parts: &[Timeline], _printed: &[u8]) -> Made {
         match command {
             Command::Timeline(columns) => timeline_text(alloc, parts, columns),
             _ => timeline_text(alloc, parts, 0),
         }
     }
 
-    fn run_alone(
-        alloc: Global,
-        job: Job,
-        parts: &mut Vec<Timeline>,
-        guests: Vec<Box<dyn GuestTool>>,
-    ) -> Result<Observed<Timeline>, AllocError> {
+    fn run_alone(alloc: Global, job: Job, parts: &mut Vec<Self>, guests: Guests) -> Seen<Self> {
         observe_alone(alloc, job, mem::replace(parts, Vec::new(alloc)), guests)
     }
 
@@ -201,9 +158,9 @@ impl Keeper for Timeline {
         rt: &R,
         alloc: Global,
         job: Job,
-        parts: &mut Vec<Timeline>,
-        guests: Vec<Box<dyn GuestTool>>,
-    ) -> Result<Observed<Timeline>, AllocError> {
+        parts: &mut Vec<Self>,
+        guests: Guests,
+    ) -> Seen<Self> {
         observe(rt, alloc, job, mem::replace(parts, Vec::new(alloc)), guests)
     }
 
@@ -222,12 +179,7 @@ pub(crate) fn keepers<P: Keeper>(alloc: Global, threads: u8) -> Result<Vec<P>, A
 }
 
 /// The summary of a run of the program with so many blocks: these recorders were told of the run, and it printed this text.
-fn summary(
-    alloc: Global,
-    blocks: u16,
-    parts: &[Recorder],
-    printed: &[u8],
-) -> Result<Vec<u8>, AllocError>
+fn summary(alloc: Global, blocks: u16, parts: &[Recorder], printed: &[u8]) -> Made
     ensures { IfOk result (λ text. (events : List EventRecord) → AreShared events parts.now →
         text.items ≡ summary_of (generated blocks) events printed.now) }
 {

@@ -1,8 +1,7 @@
 //! What the definitions of texts come to, as functions with empty bodies.
 
 ghost use Rattle.std.specs.Prelude.{ℕ, ◌≡◌, ◌⊎◌, List};
-ghost use Rattle.ompt_cli.specs.Text.{IsProgram, IsRefused};
-ghost use Rattle.ompt_cli.specs.declared.end.Refusal.{Refusal};
+ghost use Rattle.ompt_cli.specs.{Text.IsProgram, Text.IsRefused, declared.end.Refusal.Refusal};
 
 /// Each text is a program that runs or is refused, not both, and is refused for one reason.
 pub fn each_text_is_judged()

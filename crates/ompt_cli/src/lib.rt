@@ -43,8 +43,6 @@ mod job;
 mod keepers;
 mod laws;
 mod observing;
-mod outcome;
-mod profiling;
 mod program_words;
 mod read_commands;
 mod recording;

@@ -3,6 +3,7 @@
 ghost use Rattle.std.specs.Prelude.{◌≡◌, ◌≢◌, [], IfOk, length, true};
 ghost use Rattle.ompt_cli.specs.Reports.{HasObserved};
 
+use crate::guests::Guests;
 use crate::job::Job;
 use crate::report::{ProgramTree, Report};
 use omp_model::Cause;
@@ -12,7 +13,7 @@ use std::sync::Wait;
 use std::thread::Threads;
 use team_run::{Ran, run_serial};
 use thread_run::run_threads;
-use tool_api::{GuestTool, ToolPart};
+use tool_api::ToolPart;
 
 /// What a run gave: its report, its parts by thread, and the bytes that the program printed.
 #[derive(Drop)]
@@ -22,14 +23,16 @@ pub(crate) struct Observed<P> {
     pub text: Vec<u8>,
 }
 
-/// Runs a serial job. Part t is called for the events of thread t. The guests of the report are these. A run that found no memory for its first entry is
-/// none.
+/// What a run gave, unless there was no memory for it. A run that found none for its first entry is none.
+pub(crate) type Seen<P> = Result<Observed<P>, AllocError>;
+
+/// Runs a serial job. Part t is called for the events of thread t. The guests of the report are these.
 pub(crate) fn observe_alone<P: ToolPart>(
     alloc: Global,
     job: Job,
     parts: Vec<P>,
-    guests: Vec<Box<dyn GuestTool>>,
-) -> Result<Observed<P>, AllocError>
+    guests: Guests,
+) -> Seen<P>
     requires serial { job.settings.serial ≡ true }
     requires parts { length parts.items ≡ job.settings.threads }
     ensures observed { IfOk result (HasObserved P.stands_for P.same job parts.items) }
@@ -48,8 +51,8 @@ pub(crate) fn observe<R: Threads + Wait + Sync, P: ToolPart>(
     alloc: Global,
     job: Job,
     parts: Vec<P>,
-    guests: Vec<Box<dyn GuestTool>>,
-) -> Result<Observed<P>, AllocError>
+    guests: Guests,
+) -> Seen<P>
     requires parts { length parts.items ≡ job.settings.threads }
     ensures observed { IfOk result (HasObserved P.stands_for P.same job parts.items) }
     ensures guests { IfOk result (λ observed. observed.report.guests ≡ guests) }
@@ -81,7 +84,7 @@ fn with_report<P>(
     settings: Settings,
     program: ProgramTree,
     ran: Ran<P>,
-    guests: Vec<Box<dyn GuestTool>>,
+    guests: Guests,
 ) -> Observed<P>
     ensures { result ≡ record {
       report = record {

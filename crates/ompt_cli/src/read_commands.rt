@@ -2,21 +2,16 @@
 
 ghost use Rattle.std.specs.Prelude.{◌≡◌, ◌≢◌, ◌⊎◌, IfOk, IsSomeAnd};
 ghost use Rattle.std.specs.Io.KnownBytes.{Appends};
-ghost use Rattle.run_edges.specs.Edges.{AppendsFront};
-ghost use Rattle.ompt_cli.specs.Commands.{CountsFaults, IsReading};
-ghost use Rattle.history_file.specs.declared.file.HistoryFile.{HistoryFile as SeenFile};
-ghost use Rattle.history_file.specs.Validity.{WritesHistory};
-ghost use Rattle.ompt_cli.specs.Histories.{Certifies, MayCertify};
+ghost use Rattle.ompt_cli.specs.Names.{AppendsFront, SeenFile, WritesHistory, IsForestText, IsTrace};
 ghost use Rattle.ompt_cli.specs.Traces.{HasCopy, HasJudged, HasRead, HasTasks, IsNested, ok_text};
-ghost use Rattle.tool_tasks.specs.Text.{IsForestText};
-ghost use Rattle.trace_format.specs.Validity.{IsTrace};
+ghost use Rattle.ompt_cli.specs.{Commands.CountsFaults, Commands.IsReading, Histories.Certifies, Histories.MayCertify};
 
 use crate::end::End;
 use crate::rerunning::rerun_history;
-use crate::writing::write_read;
+use crate::writing::{Made, write_read};
 use ompt_words::ReadCommand;
 use run_edges::{Sink, Source, write_all};
-use std::alloc::{AllocError, Global};
+use std::alloc::Global;
 use tool_tasks::{Forest, Unread, read_nested};
 use trace_check::{Checked, check_trace};
 use trace_copy::{Copied, Form, copy_trace};
@@ -110,7 +105,7 @@ fn tell_tasks<S: Source, O: Sink>(alloc: Global, source: &mut S, out: &mut O) ->
 }
 
 /// What is written of the tasks of a nested trace.
-fn tasks_text(alloc: Global, trace: &Trace) -> Result<Vec<u8>, AllocError>
+fn tasks_text(alloc: Global, trace: &Trace) -> Made
     requires valid { IsTrace trace.now }
     requires nested { IsNested trace.now }
     ensures { IfOk result (λ text. IsForestText trace.now.events text.items) }

@@ -1,20 +1,18 @@
 //! The command `record`: it runs the program, and writes the trace of the run.
 
 ghost use Rattle.std.specs.Prelude.{◌≡◌, ◌≢◌, IfOk, List, OnErr};
+ghost use Rattle.std.specs.List.{All};
+ghost use Rattle.ompt_cli.specs.Names.{PROFILE_MASK, EventRecord, FitsCause, trace_of, trace_with, AreShared};
+ghost use Rattle.ompt_cli.specs.Names.{fields_of, spelling};
+ghost use Rattle.trace_format.specs.Fitting.{FitsFields};
 ghost use Rattle.ompt_cli.specs.Commands.{CountsFaults, EndsAs, HasWritten, IsSharedFew, unless_memory};
 ghost use Rattle.ompt_cli.specs.Reports.{Reports};
-ghost use Rattle.std.specs.List.{All};
-ghost use Rattle.omp_codes.specs.declared.callbacks.TheConstants.{PROFILE_MASK};
-ghost use Rattle.ompt_calls.specs.declared.event.EventRecord.{EventRecord};
-ghost use Rattle.run_trace.specs.TraceOf.{FitsCause, trace_of, trace_with};
-ghost use Rattle.tool_report.specs.Order.{AreShared};
-ghost use Rattle.trace_format.specs.Fields.{fields_of, spelling};
-ghost use Rattle.trace_format.specs.Fitting.{FitsFields};
 
 use crate::end::End;
+use crate::guests::Guests;
 use crate::job::Job;
 use crate::observing::Observed;
-use crate::outcome::AfterRun;
+use crate::report::AfterRun;
 use crate::reporting::run_kept;
 use crate::runner::Runner;
 use omp_codes::PROFILE_MASK;
@@ -23,7 +21,6 @@ use ompt_words::Command;
 use run_edges::Sink;
 use run_trace::trace_of;
 use std::alloc::{AllocError, Global};
-use tool_api::GuestTool;
 use tool_report::{Recorder, merge};
 use trace_format::write_trace;
 
@@ -31,7 +28,7 @@ use trace_format::write_trace;
 pub(crate) fn record<X: Runner, O: Sink>(
     runner: &X,
     job: Job,
-    guests: Vec<Box<dyn GuestTool>>,
+    guests: Guests,
     out: &mut O,
 ) -> Result<AfterRun, AllocError>
     requires kind { X.may_run runner.now job.settings.serial }

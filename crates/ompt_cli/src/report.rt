@@ -1,12 +1,12 @@
-//! What a command reports of its run.
+//! How a command ended, and what it reports of its run.
 
-ghost use Rattle.std.specs.Prelude.{◌≡◌};
+ghost use Rattle.std.specs.Prelude.{◌≡◌, None};
 
 use crate::end::End;
 use crate::job::Loaded;
 use c_check::Program;
 use omp_model::{Cause, History};
-use ompt_words::{Command, ReadCommand, Settings};
+use ompt_words::{Command, ReadCommand, RunOutput, Settings};
 use std::snapshot::Snapshot;
 use tool_api::GuestTool;
 
@@ -82,4 +82,47 @@ pub struct Top {
     pub shown: Option<String>,
     /// The command that has read a trace or a history file, where the words ask for one. Then nothing ran.
     pub read: Option<ReadCommand>,
+}
+
+impl Top {
+    /// Whether the command has printed what a program printed, so that more may stand behind it.
+    pub fn has_printed(&self) -> bool {
+        match &self.ran {
+            Some(report) => match report.command {
+                Command::Run(RunOutput::History) => false,
+                Command::Run(_) => self.end != End::Memory && self.end != End::WriteFault,
+                _ => false,
+            },
+            None => false,
+        }
+    }
+}
+
+/// How a command ended, what it reports of its run, if there was one, the text that it was to show, if there was one, and the command that has read a
+/// trace, if one has.
+#[derive(Drop)]
+pub(crate) struct Outcome {
+    pub end: End,
+    pub ran: Option<Report>,
+    pub shown: Option<String>,
+    pub read: Option<ReadCommand>,
+}
+
+/// How a command ended that has run, and what it reports of its run.
+#[derive(Drop)]
+pub(crate) struct AfterRun {
+    pub end: End,
+    pub report: Report,
+}
+
+/// A command that ended before its run.
+pub(crate) fn without_run(end: End) -> Outcome
+    ensures { result ≡ record { end = end; ran = None; shown = None; read = None } }
+{
+    Outcome {
+        end,
+        ran: None,
+        shown: None,
+        read: None,
+    }
 }

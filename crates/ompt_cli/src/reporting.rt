@@ -1,30 +1,25 @@
 //! The commands that run a program and report what the parts of their threads kept: `list`, `profile`, `timeline` and `gen`.
 
 ghost use Rattle.std.specs.Prelude.{ℕ, ◌≡◌, ◌≢◌, IfOk, List, OnErr};
-ghost use Rattle.omp_model.specs.declared.cause.Cause.{Cause};
-ghost use Rattle.omp_model.specs.declared.history.Entry.{Entry};
-ghost use Rattle.omp_model.specs.Legal.{after};
-ghost use Rattle.omp_model.specs.Records.{records_of};
-ghost use Rattle.omp_model.specs.State.{Run};
-ghost use Rattle.ompt_cli.specs.Commands.{HasGuests, written_by};
-ghost use Rattle.ompt_cli.specs.Reports.{HasKept, Reports};
+ghost use Rattle.ompt_cli.specs.Names.{Cause, Entry, after, records_of, Run};
+ghost use Rattle.ompt_cli.specs.{Commands.HasGuests, Commands.written_by, Reports.HasKept, Reports.Reports};
 
+use crate::guests::Guests;
 use crate::job::Job;
 use crate::keepers::{Keeper, keepers};
-use crate::observing::Observed;
-use crate::outcome::AfterRun;
+use crate::observing::{Observed, Seen};
+use crate::report::AfterRun;
 use crate::runner::Runner;
 use crate::writing::write_made;
 use ompt_words::Command;
 use run_edges::Sink;
 use std::alloc::AllocError;
-use tool_api::GuestTool;
 
 /// Runs the job, and writes what its command makes of what the parts kept. The guests come back as they were.
 pub(crate) fn report_kept<X: Runner, P: Keeper, O: Sink>(
     runner: &X,
     job: Job,
-    guests: Vec<Box<dyn GuestTool>>,
+    guests: Guests,
     out: &mut O,
 ) -> Result<AfterRun, AllocError>
     requires kind { X.may_run runner.now job.settings.serial }
@@ -49,11 +44,7 @@ pub(crate) fn report_kept<X: Runner, P: Keeper, O: Sink>(
 }
 
 /// Runs the job with a part for each thread that keeps what it is told. The guests of the report are these.
-pub(crate) fn run_kept<X: Runner, P: Keeper>(
-    runner: &X,
-    job: Job,
-    guests: Vec<Box<dyn GuestTool>>,
-) -> Result<Observed<P>, AllocError>
+pub(crate) fn run_kept<X: Runner, P: Keeper>(runner: &X, job: Job, guests: Guests) -> Seen<P>
     requires { X.may_run runner.now job.settings.serial }
     ensures kept { IfOk result (HasKept P.keep job) }
     ensures guests { IfOk result (λ observed. observed.report.guests ≡ guests) }

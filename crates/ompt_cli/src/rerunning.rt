@@ -1,17 +1,14 @@
 //! The command `rerun`: it reads a history file, and says whether it is a certificate.
 
 ghost use Rattle.std.specs.Prelude.{ℕ, ◌<◌, ◌^◌, ◌≡◌, ◌≢◌, ◌⊎◌, ◌++◌, Err, IfErr, IfOk, IfSome, IsSomeAnd, List, MatchResult, Option, Some, length};
-ghost use Rattle.run_edges.specs.Edges.{Rose};
-ghost use Rattle.trace_copy.specs.Written.{line_of_end as line_of_mark};
-ghost use Rattle.history_file.specs.declared.file.HistoryFile.{HistoryFile as SeenFile};
-ghost use Rattle.history_file.specs.Certificates.{IsCertificate, run_of_file};
-ghost use Rattle.history_file.specs.Validity.{IsHistoryFile, WritesHistory};
+ghost use Rattle.ompt_cli.specs.Names.{Rose, line_of_mark, SeenFile, IsCertificate, run_of_file, IsHistoryFile};
+ghost use Rattle.ompt_cli.specs.Names.{WritesHistory};
 ghost use Rattle.ompt_cli.specs.Commands.{CountsFaults, IsReading};
 ghost use Rattle.ompt_cli.specs.Histories.{Certifies, HasFile, HasRerun, IsUnreadFile, MayCertify, lines_of_calls};
 
 use crate::end::End;
 use crate::text::program_of;
-use crate::writing::write_read;
+use crate::writing::{Made, write_read};
 use c_check::Program;
 use history_file::{
     HISTORY_LIMIT, HeardCall, HistoryFault, HistoryFile, HistoryReason, Verdict, read_history,
@@ -19,7 +16,7 @@ use history_file::{
 };
 use ompt_calls::line_of;
 use run_edges::{ReadAllFault, Sink, Source, read_all};
-use std::alloc::{AllocError, Global};
+use std::alloc::Global;
 use trace_copy::line_of_end;
 use trace_format::EndMark;
 
@@ -108,7 +105,7 @@ fn judge_program<O: Sink>(alloc: Global, program: Program, file: &HistoryFile, o
 }
 
 /// A line for each call that was heard, and one for how the run of the file ended.
-fn heard_text(alloc: Global, file: &HistoryFile, calls: &[HeardCall]) -> Result<Vec<u8>, AllocError>
+fn heard_text(alloc: Global, file: &HistoryFile, calls: &[HeardCall]) -> Made
     requires { length file.now.history < 2 ^ 32 }
     ensures { IfOk result (λ text. text.items ≡ lines_of_calls calls.now ++
         line_of_mark (record { status = file.now.status; detail = file.now.detail; count = length file.now.history })) }
@@ -124,7 +121,7 @@ fn heard_text(alloc: Global, file: &HistoryFile, calls: &[HeardCall]) -> Result<
 }
 
 /// A line for each call, in their order.
-fn calls_text(alloc: Global, calls: &[HeardCall]) -> Result<Vec<u8>, AllocError>
+fn calls_text(alloc: Global, calls: &[HeardCall]) -> Made
     ensures { IfOk result (λ text. text.items ≡ lines_of_calls calls.now) }
 {
     let mut text = Vec::new(alloc);

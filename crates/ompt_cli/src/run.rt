@@ -1,23 +1,22 @@
-//! The command `run`: it runs the program with the guests as the parts of its threads, and writes what it prints, or the history of its run.
+//! The command `run`: it runs the program with guests as the parts of its threads, and writes what it prints, or the
+//! history of its run. With a profile guests are called beside profiles, and the counts follow what the program prints.
 
-ghost use Rattle.std.specs.Prelude.{◌≡◌, ◌⊎◌, IfOk, OnErr};
-ghost use Rattle.omp_model.specs.Legal.{after};
-ghost use Rattle.ompt_cli.specs.Commands.{run_of};
-ghost use Rattle.ompt_cli.specs.Guests.{GuestsAfter};
-ghost use Rattle.ompt_cli.specs.Reports.{Observes, Reports};
+ghost use Rattle.std.specs.Prelude.{◌≡◌, ◌⊎◌, ◌++◌, IfOk, List, OnErr};
+ghost use Rattle.ompt_cli.specs.Names.{after, records_of, EventRecord, counts_of, AreKept, profile_of};
+ghost use Rattle.ompt_cli.specs.{Commands.run_of, Guests.GuestsAfter, Reports.Observes, Reports.Reports};
 
-use crate::guests::{Handing, hand_out_all, take_back_all};
+use crate::guests::{Guests, Handing, hand_out_all, take_back_all};
 use crate::history_writing::write_history_of_run;
 use crate::job::Job;
-use crate::observing::Observed;
-use crate::outcome::AfterRun;
-use crate::report::Report;
+use crate::observing::{Observed, Seen};
+use crate::report::{AfterRun, Report};
 use crate::runner::Runner;
-use crate::writing::write_run;
+use crate::writing::{Made, write_made, write_run};
 use ompt_words::{Command, RunOutput};
 use run_edges::Sink;
-use std::alloc::AllocError;
-use tool_api::GuestTool;
+use std::alloc::{AllocError, Global};
+use tool_profiled::{Joined, Parted, join_all, part_all};
+use tool_report::{Profile, profile_text};
 
 /// What a run with guests gave: its report, in which the guests are back, and the bytes that the program printed.
 #[derive(Drop)]
@@ -30,7 +29,7 @@ struct Served {
 pub(crate) fn run_printed<X: Runner, O: Sink>(
     runner: &X,
     job: Job,
-    guests: Vec<Box<dyn GuestTool>>,
+    guests: Guests,
     out: &mut O,
 ) -> Result<AfterRun, AllocError>
     requires kind { X.may_run runner.now job.settings.serial }
@@ -48,7 +47,7 @@ pub(crate) fn run_printed<X: Runner, O: Sink>(
 pub(crate) fn run_history<X: Runner, O: Sink>(
     runner: &X,
     job: Job,
-    guests: Vec<Box<dyn GuestTool>>,
+    guests: Guests,
     out: &mut O,
 ) -> Result<AfterRun, AllocError>
     requires kind { X.may_run runner.now job.settings.serial }
@@ -63,11 +62,7 @@ pub(crate) fn run_history<X: Runner, O: Sink>(
 }
 
 /// Runs the job with the guests. A run that found no memory for its first entry is none.
-fn serve<X: Runner>(
-    runner: &X,
-    job: Job,
-    guests: Vec<Box<dyn GuestTool>>,
-) -> Result<Served, AllocError>
+fn serve<X: Runner>(runner: &X, job: Job, guests: Guests) -> Result<Served, AllocError>
     requires kind { X.may_run runner.now job.settings.serial }
     requires command { (job.settings.command ≡ Command.Run RunOutput.Printed) ⊎
         (job.settings.command ≡ Command.Run RunOutput.History) }
@@ -88,4 +83,69 @@ fn serve<X: Runner>(
         ..report
     };
     Ok(Served { report, text })
+}
+
+/// Runs the job, and writes what the program printed, and then how many calls of each callback there were. Guest t is the part of thread t beside a profile.
+pub(crate) fn run_profiled<X: Runner, O: Sink>(
+    runner: &X,
+    job: Job,
+    guests: Guests,
+    out: &mut O,
+) -> Result<AfterRun, AllocError>
+    requires kind { X.may_run runner.now job.settings.serial }
+    requires command { job.settings.command ≡ Command.Run RunOutput.Profile }
+    ensures ran { IfOk result (λ ended. Reports (λ guest h. (GuestTool-box guest).stands_for guest.value h)
+        O.held O.faults job guests.items out.old out.new ended.end ended.report) }
+    ensures untouched { OnErr result (out.new ≡ out.old) }
+{
+    let Observed {
+        report,
+        parts,
+        text,
+    } = serve_profiled(runner, job, guests)?;
+    let made = with_profile(runner.alloc(), text, &parts);
+    let end = write_made(report.cause, made, out);
+    Ok(AfterRun { end, report })
+}
+
+/// This text, and behind it the report of what these profiles counted.
+fn with_profile(alloc: Global, printed: Vec<u8>, profiles: &[Profile]) -> Made
+    ensures { IfOk result (λ text. (events : List EventRecord) → AreKept counts_of events profiles.now →
+        text.items ≡ printed.items ++ profile_of events) }
+{
+    let mut text = printed;
+    let counts = profile_text(alloc, profiles)?;
+    text.extend_from_slice(counts.as_slice())?;
+    Ok(text)
+}
+
+/// Runs the job with the guests beside profiles. The guests are back in the report, and the parts are the profiles.
+fn serve_profiled<X: Runner>(runner: &X, job: Job, guests: Guests) -> Seen<Profile>
+    requires kind { X.may_run runner.now job.settings.serial }
+    requires command { job.settings.command ≡ Command.Run RunOutput.Profile }
+    ensures observes { IfOk result (λ counted. Observes job counted.report) }
+    ensures guests { IfOk result (λ counted.
+        GuestsAfter (λ guest h. (GuestTool-box guest).stands_for guest.value h) guests.items counted.report) }
+    ensures printed { IfOk result (λ counted.
+        counted.text.items ≡ (after (run_of counted.report) counted.report.history).world.store.text) }
+    ensures counted { IfOk result (λ counted.
+        AreKept counts_of (records_of (run_of counted.report) counted.report.history) counted.parts.items) }
+{
+    let Handing { parts, waiting } = hand_out_all(runner.alloc(), job.settings.threads, guests)?;
+    let Joined { parts, room, .. } = join_all(runner.alloc(), parts)?;
+    let Observed {
+        report,
+        parts,
+        text,
+    } = runner.run_joined(job, parts)?;
+    let Parted { parts, profiles } = part_all(room, parts);
+    let report = Report {
+        guests: take_back_all(parts, waiting),
+        ..report
+    };
+    Ok(Observed {
+        report,
+        parts: profiles,
+        text,
+    })
 }

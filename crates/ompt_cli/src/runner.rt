@@ -2,18 +2,16 @@
 
 ghost use Rattle.std.specs.Prelude.{◌≡◌, Bool, IfOk, length, true};
 ghost use Rattle.std.specs.Thread.{IsSync};
-ghost use Rattle.tool_api.specs.Handed.{HandedFor, SameHanded};
-ghost use Rattle.tool_profiled.specs.Joining.{ProfiledFor, SameProfiled};
+ghost use Rattle.ompt_cli.specs.Names.{HandedFor, SameHanded, ProfiledFor, SameProfiled};
 ghost use Rattle.ompt_cli.specs.Reports.{HasObserved};
 
-use crate::guests::GuestPart;
+use crate::guests::{Guests, Held};
 use crate::job::Job;
 use crate::keepers::Keeper;
-use crate::observing::{Observed, observe, observe_alone};
-use std::alloc::{AllocError, Global};
+use crate::observing::{Seen, observe, observe_alone};
+use std::alloc::Global;
 use std::sync::Wait;
 use std::thread::Threads;
-use tool_api::{GuestTool, Handed};
 use tool_profiled::Profiled;
 
 /// Runs jobs: [`Alone`] runs serial jobs, and [`WithThreads`] runs all jobs. Guests have a method, and so have guests beside profiles.
@@ -25,35 +23,21 @@ pub(crate) trait Runner {
     fn alloc(&self) -> Global;
 
     /// Runs the job with the parts that this list has. What the list holds afterwards is no clause. The guests of the report are these.
-    fn run<P: Keeper>(
-        &self,
-        job: Job,
-        parts: &mut Vec<P>,
-        guests: Vec<Box<dyn GuestTool>>,
-    ) -> Result<Observed<P>, AllocError>
+    fn run<P: Keeper>(&self, job: Job, parts: &mut Vec<P>, guests: Guests) -> Seen<P>
         requires kind { may_run self.now job.settings.serial }
         requires parts { length parts.old.items ≡ job.settings.threads }
         ensures observed { IfOk result (HasObserved P.stands_for P.same job parts.old.items) }
         ensures guests { IfOk result (λ observed. observed.report.guests ≡ guests) };
 
     /// Runs the job with these parts. The report has no guests.
-    fn run_guests(
-        &self,
-        job: Job,
-        parts: Vec<Handed<GuestPart>>,
-    ) -> Result<Observed<Handed<GuestPart>>, AllocError>
+    fn run_guests(&self, job: Job, parts: Vec<Held>) -> Seen<Held>
         requires kind { may_run self.now job.settings.serial }
         requires parts { length parts.items ≡ job.settings.threads }
-        ensures { IfOk result (HasObserved
-            (HandedFor (λ guest h. (GuestTool-box guest.0).stands_for guest.0.value h))
+        ensures { IfOk result (HasObserved (HandedFor (λ guest h. (GuestTool-box guest.0).stands_for guest.0.value h))
             (SameHanded (λ guest other. guest.0.vtable ≡ other.0.vtable)) job parts.items) };
 
     /// Runs the job with these parts, which are joined with profiles. The report has no guests.
-    fn run_joined(
-        &self,
-        job: Job,
-        parts: Vec<Profiled<Handed<GuestPart>>>,
-    ) -> Result<Observed<Profiled<Handed<GuestPart>>>, AllocError>
+    fn run_joined(&self, job: Job, parts: Vec<Profiled<Held>>) -> Seen<Profiled<Held>>
         requires kind { may_run self.now job.settings.serial }
         requires parts { length parts.items ≡ job.settings.threads }
         ensures { IfOk result (HasObserved
@@ -72,28 +56,15 @@ impl Runner for Alone {
         self.0
     }
 
-    fn run<P: Keeper>(
-        &self,
-        job: Job,
-        parts: &mut Vec<P>,
-        guests: Vec<Box<dyn GuestTool>>,
-    ) -> Result<Observed<P>, AllocError> {
+    fn run<P: Keeper>(&self, job: Job, parts: &mut Vec<P>, guests: Guests) -> Seen<P> {
         P::run_alone(self.0, job, parts, guests)
     }
 
-    fn run_guests(
-        &self,
-        job: Job,
-        parts: Vec<Handed<GuestPart>>,
-    ) -> Result<Observed<Handed<GuestPart>>, AllocError> {
+    fn run_guests(&self, job: Job, parts: Vec<Held>) -> Seen<Held> {
         observe_alone(self.0, job, parts, Vec::new(self.0))
     }
 
-    fn run_joined(
-        &self,
-        job: Job,
-        parts: Vec<Profiled<Handed<GuestPart>>>,
-    ) -> Result<Observed<Profiled<Handed<GuestPart>>>, AllocError> {
+    fn run_joined(&self, job: Job, parts: Vec<Profiled<Held>>) -> Seen<Profiled<Held>> {
         observe_alone(self.0, job, parts, Vec::new(self.0))
     }
 }
@@ -109,28 +80,15 @@ impl<'a, R: Threads + Wait + Sync> Runner for WithThreads<'a, R> {
         self.1
     }
 
-    fn run<P: Keeper>(
-        &self,
-        job: Job,
-        parts: &mut Vec<P>,
-        guests: Vec<Box<dyn GuestTool>>,
-    ) -> Result<Observed<P>, AllocError> {
+    fn run<P: Keeper>(&self, job: Job, parts: &mut Vec<P>, guests: Guests) -> Seen<P> {
         P::run_by_threads(self.0, self.1, job, parts, guests)
     }
 
-    fn run_guests(
-        &self,
-        job: Job,
-        parts: Vec<Handed<GuestPart>>,
-    ) -> Result<Observed<Handed<GuestPart>>, AllocError> {
+    fn run_guests(&self, job: Job, parts: Vec<Held>) -> Seen<Held> {
         observe(self.0, self.1, job, parts, Vec::new(self.1))
     }
 
-    fn run_joined(
-        &self,
-        job: Job,
-        parts: Vec<Profiled<Handed<GuestPart>>>,
-    ) -> Result<Observed<Profiled<Handed<GuestPart>>>, AllocError> {
+    fn run_joined(&self, job: Job, parts: Vec<Profiled<Held>>) -> Seen<Profiled<Held>> {
         observe(self.0, self.1, job, parts, Vec::new(self.1))
     }
 }

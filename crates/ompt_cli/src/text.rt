@@ -1,10 +1,8 @@
 //! The texts that run.
 
 ghost use Rattle.std.specs.Prelude.{ℕ, ◌≡◌, ◌≢◌, ◌≤◌, IfOk, IfErr, Some, length};
-ghost use Rattle.run_edges.specs.Edges.{Rose};
-ghost use Rattle.ompt_cli.specs.Loading.{EndsFor, IsLoaded};
-ghost use Rattle.ompt_cli.specs.Text.{IsReadAs, Spells, text_for};
-ghost use Rattle.tool_report.specs.Generator.{generated};
+ghost use Rattle.ompt_cli.specs.Names.{Rose, generated};
+ghost use Rattle.ompt_cli.specs.{Loading.EndsFor, Loading.IsLoaded, Text.IsReadAs, Text.Spells, Text.text_for};
 
 use crate::end::{End, Refusal};
 use crate::job::Loaded;

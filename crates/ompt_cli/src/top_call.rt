@@ -3,17 +3,14 @@
 ghost use Rattle.std.specs.Prelude.{ℕ, ◌≡◌, false, true, IfErr, IfOk, IfSome, IsNone, List, ◌⊎◌};
 ghost use Rattle.ompt_words.specs.declared.settings.Request.TheVariants as request;
 ghost use Rattle.ompt_cli.specs.Commands.{CountsFaults, HasWritten, out_of};
-ghost use Rattle.ompt_cli.specs.Ends.{TellsEnd};
-ghost use Rattle.ompt_cli.specs.Guests.{GuestsAfter};
-ghost use Rattle.ompt_cli.specs.Top.{CarriesOut, FollowsWords, HasTrace, IsRunOf, JudgesText, ShowsFaults, StaysUntouched};
-ghost use Rattle.ompt_cli.specs.Traces.{HasReadInput};
 ghost use Rattle.ompt_cli.specs.Words.{AreFaulty, AreInRange, AreTakenAs, texts};
+ghost use Rattle.ompt_cli.specs.{Ends.TellsEnd, Guests.GuestsAfter, Top.CarriesOut, Top.FollowsWords, Top.HasTrace};
+ghost use Rattle.ompt_cli.specs.{Top.IsRunOf, Top.JudgesText, Top.ShowsFaults, Top.StaysUntouched, Traces.HasReadInput};
 
 use crate::commands::run_settings;
 use crate::end::End;
-use crate::outcome::{Outcome, without_run};
 use crate::read_commands::read_input;
-use crate::report::{ByThreads, Top};
+use crate::report::{ByThreads, Outcome, Top, without_run};
 use crate::runner::{Alone, WithThreads};
 use ompt_words::{Request, WordsFault, request_of};
 use run_edges::{Sink, Source, write_all};
@@ -86,8 +83,7 @@ pub fn top_alone<S: Source, O: Sink, E: Sink>(
     guests: Vec<Box<dyn GuestTool>>,
 ) -> Result<Top, ByThreads>
     ensures told { IfOk result (λ top. TellsEnd E.held E.faults top.status top.end err.old err.new) }
-    ensures carried { IfOk result (λ top.
-        CarriesOut S.left S.faults O.held O.faults
+    ensures carried { IfOk result (λ top. CarriesOut S.left S.faults O.held O.faults
         (texts words.now) top.end top.shown top.read top.ran source.old source.new out.old out.new) }
     ensures guests { IfOk result (λ top.
         IfSome top.ran (GuestsAfter (λ guest h. (GuestTool-box guest).stands_for guest.value h) guests.items)) }

@@ -4,14 +4,10 @@
 //! callbacks of its own. A thread's guest is both in one, [`TwoTools`](gathered::TwoTools). What they hear is [`Gathered`] from all threads,
 //! and `main` writes it behind what the program printed. With `--history`, and for the other commands, nothing is reported.
 //!
-//! Proved is that it is safe, that it ends unless it waits for a lock, and what [`ended`], `Profile::add_region` and `Profile::add_wait`
+//! Proved is that it is safe, that it ends unless it waits for a lock, and what `Profile::add_region` and `Profile::add_wait`
 //! say; and that the guest of a thread stands for what `tool_both` says of two tools. That the reports have all that was heard, and that they
 //! are as they should be, is only tested: by the run of `stdin`, which has to write `stdout`.
 #![tactic(auto)]
-
-ghost use Rattle.std.specs.Prelude.{◌≡◌};
-ghost use Rattle.std.specs.Process.{exit_status};
-ghost use Rattle.ompt_cli.specs.Ends.{status_of};
 
 mod gathered;
 mod profile;
@@ -20,7 +16,7 @@ mod task_profiler;
 mod task_starts;
 
 use gathered::Gathered;
-use ompt_cli::{Command, End, RunOutput, Top, own_words, top};
+use ompt_cli::{End, own_words, top};
 use run_edges::{Sink, StdSink, StdSource, write_all};
 use std::alloc::{AllocError, Global};
 use std::process::ExitCode;
@@ -30,22 +26,22 @@ use tool_api::GuestTool;
 fn main(rt: HostRuntime) -> ExitCode {
     let mut err = StdSink::new(rt.stderr());
     let Ok(gathered) = Gathered::new(rt.alloc()) else {
-        return ended(End::Memory, &mut err);
+        return End::Memory.exit(&mut err);
     };
     let Ok(pairs) = gathered.guests(rt.alloc(), rt) else {
-        return ended(End::Memory, &mut err);
+        return End::Memory.exit(&mut err);
     };
     let mut guests: Vec<Box<dyn GuestTool>> = Vec::new(rt.alloc());
     for pair in pairs {
         let Ok(guest) = Box::new(rt.alloc(), pair) else {
-            return ended(End::Memory, &mut err);
+            return End::Memory.exit(&mut err);
         };
         let Ok(()) = guests.push(guest) else {
-            return ended(End::Memory, &mut err);
+            return End::Memory.exit(&mut err);
         };
     }
     let Ok(words) = own_words(&rt) else {
-        return ended(End::Memory, &mut err);
+        return End::Memory.exit(&mut err);
     };
     let mut source = StdSource::new(rt.stdin());
     let mut out = StdSink::new(rt.stdout());
@@ -58,24 +54,12 @@ fn main(rt: HostRuntime) -> ExitCode {
         &mut err,
         guests,
     );
-    if has_report(&top) {
+    if top.has_printed() {
         if let Err(end) = report(&rt, rt.alloc(), &gathered, &mut out) {
-            return ended(end, &mut err);
+            return end.exit(&mut err);
         }
     }
     ExitCode::from(top.status)
-}
-
-/// Whether the command has printed what a program printed, so that the reports may stand behind it.
-fn has_report(top: &Top) -> bool {
-    match &top.ran {
-        Some(report) => match report.command {
-            Command::Run(RunOutput::History) => false,
-            Command::Run(_) => top.end != End::Memory && top.end != End::WriteFault,
-            _ => false,
-        },
-        None => false,
-    }
 }
 
 /// Writes the reports of both tools, the first one's first.
@@ -95,12 +79,4 @@ fn report<R: Wait, O: Sink>(
 fn write_text<O: Sink>(text: Result<String, AllocError>, out: &mut O) -> Result<(), End> {
     let text = text.map_err(|_| End::Memory)?;
     write_all(out, text.as_str().as_bytes()).map_err(|_| End::WriteFault)
-}
-
-/// Tells this end by its line, and ends with its status, also where the line can't be written.
-fn ended<E: Sink>(end: End, err: &mut E) -> ExitCode
-    ensures { exit_status result ≡ status_of end }
-{
-    let _line = write_all(err, end.line().as_str().as_bytes());
-    ExitCode::from(end.status())
 }

@@ -14,13 +14,9 @@
 //! region, where a task is created into the word of the task, and at the begin of an implicit task into the task's own. So later lines show
 //! what was stored.
 //!
-//! Proved is that it is safe, that it ends unless it waits, what `line_of` says: a line is that of `specs/LevelLine.antt`, and what [`ended`]
-//! says. That all lines are written, and in their order, is only tested: by the run of `stdin`, which has to write `stdout`, and by the test.
+//! Proved is that it is safe, that it ends unless it waits, and what `line_of` says: a line is that of `specs/LevelLine.antt`. That all
+//! lines are written, and in their order, is only tested: by the run of `stdin`, which has to write `stdout`, and by the test.
 #![tactic(auto)]
-
-ghost use Rattle.std.specs.Prelude.{◌≡◌};
-ghost use Rattle.std.specs.Process.{exit_status};
-ghost use Rattle.ompt_cli.specs.Ends.{status_of};
 
 mod inquirer;
 mod level_line;
@@ -31,7 +27,7 @@ mod tests;
 
 use inquirer::Inquirer;
 use lines::Lines;
-use ompt_cli::{Command, End, RunOutput, Top, own_words, top};
+use ompt_cli::{End, own_words, top};
 use run_edges::{Sink, StdSink, StdSource, write_all};
 use std::alloc::Global;
 use std::process::ExitCode;
@@ -42,24 +38,24 @@ use tool_api::GuestTool;
 fn main(rt: HostRuntime) -> ExitCode {
     let mut err = StdSink::new(rt.stderr());
     let Ok(mut words) = own_words(&rt) else {
-        return ended(End::Memory, &mut err);
+        return End::Memory.exit(&mut err);
     };
     let storing = Storing::take(&mut words);
     let Ok(lines) = Arc::new(rt.alloc(), Mutex::new(Lines::new(rt.alloc()))) else {
-        return ended(End::Memory, &mut err);
+        return End::Memory.exit(&mut err);
     };
     // A guest for each thread that there may be.
     let mut guests: Vec<Box<dyn GuestTool>> = Vec::new(rt.alloc());
     for _thread in 0..16 {
         let Ok(shared) = Arc::try_clone(&lines) else {
-            return ended(End::Memory, &mut err);
+            return End::Memory.exit(&mut err);
         };
         let inquirer = Inquirer::new(rt, rt.alloc(), shared, storing);
         let Ok(guest) = Box::new(rt.alloc(), inquirer) else {
-            return ended(End::Memory, &mut err);
+            return End::Memory.exit(&mut err);
         };
         let Ok(()) = guests.push(guest) else {
-            return ended(End::Memory, &mut err);
+            return End::Memory.exit(&mut err);
         };
     }
     let mut source = StdSource::new(rt.stdin());
@@ -73,36 +69,16 @@ fn main(rt: HostRuntime) -> ExitCode {
         &mut err,
         guests,
     );
-    if has_lines(&top) {
+    if top.has_printed() {
         if let Err(end) = write_lines(rt.alloc(), &lines.lock(&rt), &mut out) {
-            return ended(end, &mut err);
+            return end.exit(&mut err);
         }
     }
     ExitCode::from(top.status)
-}
-
-/// Whether the command has printed what a program printed, so that the lines may stand behind it.
-fn has_lines(top: &Top) -> bool {
-    match &top.ran {
-        Some(report) => match report.command {
-            Command::Run(RunOutput::History) => false,
-            Command::Run(_) => top.end != End::Memory && top.end != End::WriteFault,
-            _ => false,
-        },
-        None => false,
-    }
 }
 
 /// Writes all lines.
 fn write_lines<O: Sink>(alloc: Global, lines: &Lines, out: &mut O) -> Result<(), End> {
     let text = lines.text(alloc).map_err(|_| End::Memory)?;
     write_all(out, text.as_slice()).map_err(|_| End::WriteFault)
-}
-
-/// Tells this end by its line, and ends with its status, also where the line can't be written.
-fn ended<E: Sink>(end: End, err: &mut E) -> ExitCode
-    ensures { exit_status result ≡ status_of end }
-{
-    let _line = write_all(err, end.line().as_str().as_bytes());
-    ExitCode::from(end.status())
 }

@@ -1,14 +1,14 @@
 //! How the command ended: its status and its line on standard error.
 
-ghost use Rattle.std.specs.Prelude.{◌≡◌, ◌≤◌, ◌+◌, ◌∷◌, ◌++◌, [], codes, length};
+ghost use Rattle.std.specs.Prelude.{◌≡◌, ◌≤◌, ◌∷◌, ◌++◌, [], codes, length};
 ghost use Rattle.std.specs.Fmt.{decimal};
-ghost use Rattle.arrayvec.specs.ArrayString.{array_string_len};
 ghost use Rattle.trace_format.specs.Refusing.{number_of_reason};
 ghost use Rattle.ompt_view.specs.Ends.{line_of, line_of_view, status_of, status_of_view};
 
 use arrayvec::ArrayString;
 use itoa::Buffer;
 use trace_check::Breach;
+use trace_copy::push_number;
 use trace_format::Refusal;
 use trace_view::Viewed;
 
@@ -108,14 +108,4 @@ fn line_with(text: &str) -> ArrayString<160>
     let mut line = ArrayString::new();
     line.push_str(text);
     line
-}
-
-/// Adds a number in decimal.
-fn push_number(line: &mut ArrayString<160>, number: u32)
-    requires { array_string_len line.old + 40 ≤ 160 }
-    ensures bytes { line.new.bytes ≡ line.old.bytes ++ decimal number }
-    ensures few { array_string_len line.new ≤ array_string_len line.old + 40 }
-{
-    let mut digits = Buffer::new();
-    line.push_str(digits.format(number));
 }

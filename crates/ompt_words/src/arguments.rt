@@ -1,4 +1,4 @@
-//! The arguments of the commands, as clap is told of them.
+//! The arguments of the commands, as clap is told of them. It is a table: one function an argument.
 
 ghost use Rattle.std.specs.Prelude.{◌≡◌, false};
 ghost use Rattle.clap.specs.Words.{rule_of};

@@ -1,4 +1,4 @@
-//! The command line, as clap is told of it.
+//! The command line, as clap is told of it. It is a table: each command has its name, what it does, and its help.
 
 ghost use Rattle.std.specs.Prelude.{◌≡◌, IfOk, false};
 ghost use Rattle.clap.specs.Simple.{App, Shape, new_shape, with_subcommand};

@@ -62,14 +62,15 @@ macro_rules! help_of_running {
     };
 }
 
-/// What the commands say that read a trace and write it in another form, with this example.
-macro_rules! help_of_copying {
-    ($example:literal) => {
+/// What the commands say that read a trace, with these lines among the statuses, these behind the refusals, and this example.
+macro_rules! help_of_reading {
+    ([$($status:literal),*], [$($line:literal),*], $example:literal) => {
         concat!(
             "Statuses, with the line on standard error:\n",
             "   0  the input was read to its end, and what was asked of it was written\n",
             "   2  the words are wrong: usage\n",
             "   7  the input is no trace: trace refused REASON at OFFSET\n",
+            $($status,)*
             "   8  a read failed: read fault\n",
             "   9  a write failed: write fault\n",
             "  10  there was no memory: memory\n",
@@ -86,52 +87,42 @@ macro_rules! help_of_copying {
             "   9  the bytes end before the end mark does\n",
             "  10  the count isn't the number of events\n",
             "\n",
+            $($line,)*
             $example
         )
+    };
+}
+
+/// What the commands say that read a trace and write it in another form, with this example.
+macro_rules! help_of_copying {
+    ($example:literal) => {
+        help_of_reading!([], [], $example)
     };
 }
 
 /// What the commands say that ask whether a trace is nested, with this example.
 macro_rules! help_of_checking {
     ($example:literal) => {
-        concat!(
-            "Statuses, with the line on standard error:\n",
-            "   0  the input was read to its end, and what was asked of it was written\n",
-            "   2  the words are wrong: usage\n",
-            "   7  the input is no trace: trace refused REASON at OFFSET\n",
-            "   7  the trace breaks a rule: breach RULE at SEQUENCE\n",
-            "   8  a read failed: read fault\n",
-            "   9  a write failed: write fault\n",
-            "  10  there was no memory: memory\n",
-            "\n",
-            "Refusals of a trace:\n",
-            "   1  the magic isn't OMPT\n",
-            "   2  the version is neither 1 nor 2\n",
-            "   3  the threads, the origin or the mask can't be\n",
-            "   4  an item begins with a number that is neither 0 nor that of a callback of the profile\n",
-            "   5  another field has a value that it can't have\n",
-            "   6  a sequence number isn't greater than the one before\n",
-            "   7  an event's callback isn't in the mask\n",
-            "   8  a byte stands behind the end mark\n",
-            "   9  the bytes end before the end mark does\n",
-            "  10  the count isn't the number of events\n",
-            "\n",
-            "Rules that a trace may break:\n",
-            "   1  the mask is the whole one\n",
-            "   2  a thread's events go from its thread_begin to its thread_end\n",
-            "   3  a thread begins as what it is\n",
-            "   4  a region is new, and begun by the current task\n",
-            "   5  implicit tasks are the initial one, or one for each index of a team\n",
-            "   6  what begins on a thread ends there, as brackets do\n",
-            "   7  a region ends after its team\n",
-            "   8  who acquires something has asked for it directly before\n",
-            "   9  nothing is held by two\n",
-            "  10  a created task is new, and created by the current task\n",
-            "  11  a task starts once, after it was created\n",
-            "  12  a wait ends after what it waits for\n",
-            "  13  where main returned, all is over at the end\n",
-            "  14  a chunk is in its loop, and a section in its sections\n",
-            "\n",
+        help_of_reading!(
+            ["   7  the trace breaks a rule: breach RULE at SEQUENCE\n"],
+            [
+                "Rules that a trace may break:\n",
+                "   1  the mask is the whole one\n",
+                "   2  a thread's events go from its thread_begin to its thread_end\n",
+                "   3  a thread begins as what it is\n",
+                "   4  a region is new, and begun by the current task\n",
+                "   5  implicit tasks are the initial one, or one for each index of a team\n",
+                "   6  what begins on a thread ends there, as brackets do\n",
+                "   7  a region ends after its team\n",
+                "   8  who acquires something has asked for it directly before\n",
+                "   9  nothing is held by two\n",
+                "  10  a created task is new, and created by the current task\n",
+                "  11  a task starts once, after it was created\n",
+                "  12  a wait ends after what it waits for\n",
+                "  13  where main returned, all is over at the end\n",
+                "  14  a chunk is in its loop, and a section in its sections\n",
+                "\n"
+            ],
             $example
         )
     };

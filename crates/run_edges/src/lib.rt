@@ -17,6 +17,7 @@ mod sink;
 mod source;
 mod std_sink;
 mod std_source;
+mod std_stream;
 mod writing;
 
 pub use mem_sink::{MemSink, Memory};
@@ -26,6 +27,5 @@ pub use reading::{ReadAllFault, read_all};
 pub use script::Script;
 pub use sink::{Sink, Took};
 pub use source::{Got, Source};
-pub use std_sink::StdSink;
-pub use std_source::StdSource;
+pub use std_stream::{StdSink, StdSource, StdStream};
 pub use writing::{WriteFault, write_all};

@@ -1,39 +1,12 @@
-//! std's writers as sinks.
+//! std's writers as sinks. That an error of the writer is a failure, and a write that takes nothing, is to be read.
 ghost use Rattle.std.specs.Prelude.{◌≡◌, ◌≢◌, ◌<◌, ◌≤◌, length, None};
 ghost use Rattle.run_edges.specs.Edges.{raised, Rose, Takes};
 
 use super::sink::{Sink, Took};
+use super::std_stream::StdStream;
 use std::io::Write;
-use std::marker::Model;
 
-/// A writer of std as a sink that tells no content.
-///
-/// Its count of faults rises at each failure. That an error of the writer is one, and a write that takes nothing, is to be read.
-#[derive(Drop)]
-pub struct StdSink<W> {
-    inner: W,
-    pub(super) faults: u64,
-}
-
-// Clauses see the writer, and the count of faults.
-impl<W> Model for StdSink<W> {
-    ghost use Rattle.run_edges.specs.Adapted.{Adapted};
-
-    ghost Value = { Adapted W };
-
-    ghost view = { λ s. record { inner = s.inner; faults = s.faults } };
-}
-
-impl<W: Write> StdSink<W> {
-    /// A sink over this writer, with no fault counted yet.
-    pub fn new(inner: W) -> StdSink<W>
-        ensures made { result ≡ record { inner = inner; faults = 0 } }
-    {
-        StdSink { inner, faults: 0 }
-    }
-}
-
-impl<W: Write> Sink for StdSink<W> {
+impl<W: Write> Sink for StdStream<W> {
     ghost use Rattle.std.specs.Prelude.{None};
 
     ghost held = { λ _. None };

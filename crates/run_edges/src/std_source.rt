@@ -1,40 +1,12 @@
-//! std's readers as sources.
+//! std's readers as sources. That an error of the reader is a failure, and that a read of no bytes is the end, is to be read.
 ghost use Rattle.std.specs.Prelude.{◌≡◌, ◌≢◌, ◌<◌, ◌≤◌, length, None};
 ghost use Rattle.run_edges.specs.Edges.{raised, Rose, Gives};
 
 use super::source::{Got, Source};
+use super::std_stream::StdStream;
 use std::io::Read;
-use std::marker::Model;
 
-/// A reader of std as a source that tells no content.
-///
-/// Its count of faults rises at each failure. That an error of the reader is one, and that a read of no bytes is the end, is to
-/// be read.
-#[derive(Drop)]
-pub struct StdSource<R> {
-    inner: R,
-    pub(super) faults: u64,
-}
-
-// Clauses see the reader, and the count of faults.
-impl<R> Model for StdSource<R> {
-    ghost use Rattle.run_edges.specs.Adapted.{Adapted};
-
-    ghost Value = { Adapted R };
-
-    ghost view = { λ s. record { inner = s.inner; faults = s.faults } };
-}
-
-impl<R: Read> StdSource<R> {
-    /// A source over this reader, with no fault counted yet.
-    pub fn new(inner: R) -> StdSource<R>
-        ensures made { result ≡ record { inner = inner; faults = 0 } }
-    {
-        StdSource { inner, faults: 0 }
-    }
-}
-
-impl<R: Read> Source for StdSource<R> {
+impl<R: Read> Source for StdStream<R> {
     ghost use Rattle.std.specs.Prelude.{None};
 
     ghost left = { λ _. None };

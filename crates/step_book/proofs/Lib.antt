@@ -8,6 +8,6 @@ pub mod Seated
 pub mod Steps
 pub mod Longest
 pub mod Others
-pub mod Desking
+pub mod Locking
 pub mod Answering
 pub mod Closing

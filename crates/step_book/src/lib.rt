@@ -20,8 +20,8 @@
 //! Each call of a pass is one hold, but `go` of a pass that has ended the run itself, which is none, and `answer_and_go`,
 //! which is two holds for one taking of the lock. A hold is then the last that the pass has seen, and between it and those
 //! that it had seen stand other threads' holds alone. What `go` adds and answers is what a visit to the book comes to after
-//! all holds before this one ([`SharedBook::go`], `Goes` in `specs/Sharing.antt`). [`SharedBook::answer_and_go`] is an
-//! answer and then such a visit (`Answers`). That no other thread's hold stands between the two is no clause. `close`
+//! all holds before this one ([`SharedBook::go`], `VisitsAfterOthers` in `specs/Sharing.antt`). [`SharedBook::answer_and_go`] is an
+//! answer and then such a visit (`AnswersThen`). That no other thread's hold stands between the two is no clause. `close`
 //! takes the passes in: each has seen a beginning of the list of all holds, beyond which no hold is of its thread, and one
 //! has seen all.
 //!

@@ -43,9 +43,9 @@ impl<K: BookName> Model for LockedBook<K> {
 
     ghost Value = { List Hold };
 
-    ghost view = { λ desk. holds_in desk.seat.me.0 };
+    ghost view = { λ locked. holds_in locked.seat.me.0 };
 
-    ghost invariant = { λ desk. IsLockedBook K.table desk.seat.table_id K.run desk.seat.me desk.book };
+    ghost invariant = { λ locked. IsLockedBook K.table locked.seat.table_id K.run locked.seat.me locked.book };
 }
 
 impl<K: BookName> LockedBook<K> {

@@ -37,7 +37,7 @@ pub struct SharedBook<K: BookName> {
     /// The table of the word that counts the entries.
     words: CountTable,
     /// The book with its seat.
-    desk: Mutex<LockedBook<K>>,
+    locked: Mutex<LockedBook<K>>,
     /// What wakes the threads.
     bells: Bells,
     ghost named: { words.shared.table_id ≡ K.table },
@@ -66,8 +66,15 @@ impl<K: BookName> SharedBook<K> {
         } = blank;
         let passes = make_passes(alloc, &words.shared, &mut seat, book.threads())?;
         let bells = Bells::new(alloc, book.threads())?;
-        let desk = Mutex::new(LockedBook::new(book, seat, processors));
-        Ok((SharedBook { words, desk, bells }, passes))
+        let locked = Mutex::new(LockedBook::new(book, seat, processors));
+        Ok((
+            SharedBook {
+                words,
+                locked,
+                bells,
+            },
+            passes,
+        ))
     }
 
     /// A visit of the pass's thread: it takes a turn, where it may and the run hasn't ended.
@@ -89,9 +96,9 @@ impl<K: BookName> SharedBook<K> {
             return Ok(Step::Ended(Cause::Memory));
         }
         let (result, woken) = {
-            let mut desk = self.desk.lock(rt);
-            let result = desk.go(&self.words.shared, pass);
-            let woken = desk.wake(pass.thread(), self.then_of(pass, &result));
+            let mut locked = self.locked.lock(rt);
+            let result = locked.go(&self.words.shared, pass);
+            let woken = locked.wake(pass.thread(), self.then_of(pass, &result));
             (result, woken)
         };
         self.bells.ring(pass.thread(), &woken);
@@ -105,8 +112,8 @@ impl<K: BookName> SharedBook<K> {
         ensures thread { pass.new.thread ≡ pass.old.thread }
         ensures ended { pass.new.ended ≡ pass.old.ended }
     {
-        let mut desk = self.desk.lock(rt);
-        desk.answer(&self.words.shared, pass, reply, snapshot);
+        let mut locked = self.locked.lock(rt);
+        locked.answer(&self.words.shared, pass, reply, snapshot);
     }
 
     /// The answer of the tool of the pass's thread, where it is owed, and then a visit of the thread, as two holds between which the lock isn't
@@ -133,11 +140,11 @@ impl<K: BookName> SharedBook<K> {
         ensures ended { pass.new.ended ≡ pass.old.ended }
     {
         let (result, woken) = {
-            let mut desk = self.desk.lock(rt);
-            desk.answer(&self.words.shared, pass, reply, &snapshot);
-            desk.reuse(snapshot);
-            let result = desk.go(&self.words.shared, pass);
-            let woken = desk.wake(pass.thread(), self.then_of(pass, &result));
+            let mut locked = self.locked.lock(rt);
+            locked.answer(&self.words.shared, pass, reply, &snapshot);
+            locked.reuse(snapshot);
+            let result = locked.go(&self.words.shared, pass);
+            let woken = locked.wake(pass.thread(), self.then_of(pass, &result));
             (result, woken)
         };
         self.bells.ring(pass.thread(), &woken);
@@ -151,9 +158,9 @@ impl<K: BookName> SharedBook<K> {
         ensures ended { pass.new.ended ≡ true }
     {
         let woken = {
-            let mut desk = self.desk.lock(rt);
-            desk.end_memory(&self.words.shared, pass);
-            desk.wake(pass.thread(), Then::IsOver)
+            let mut locked = self.locked.lock(rt);
+            locked.end_memory(&self.words.shared, pass);
+            locked.wake(pass.thread(), Then::IsOver)
         };
         self.bells.ring(pass.thread(), &woken);
     }
@@ -190,13 +197,13 @@ impl<K: BookName> SharedBook<K> {
         ensures cause { result.cause ≡ (if any_ended passes.items then Some Cause.Memory
             else cause_of K.run result.history) }
     {
-        let SharedBook { words, desk, .. } = self;
-        let mut desk = desk.into_inner();
+        let SharedBook { words, locked, .. } = self;
+        let mut locked = locked.into_inner();
         for place in 0..passes.len() {
-            desk.check(&words.shared, &mut passes[place]);
+            locked.check(&words.shared, &mut passes[place]);
         }
         let ended = any_ended(&passes);
-        desk.close(ended)
+        locked.close(ended)
     }
 }
 

@@ -1,17 +1,10 @@
 -- What parts stand for after what their threads hear.
 use Rattle.std.proofs.Common.{◌≡◌, ◌≢◌, ℕ, ◌<◌, ◌==◌, Bool, true, false, if◌then◌else◌, cond, List, [], ◌∷◌, ◌++◌, filter, length, take, drop, slice_index_or, Option, None, refl, sym, ap, subst, ◌∙◌, append_assoc, append-nil, eq-eqb, arith, inl, inr}
-use Rattle.std.proofs.lemmas.List.{take_all, drop_all}
-use Rattle.std.proofs.lemmas.List.Elements.{filter-append}
-use Rattle.std.proofs.lemmas.Bool.Decides.{eqb_tells}
-use Rattle.ompt_calls.specs.Item.{Item}
-use Rattle.tool_api.specs.Record.{Record, initialized, told}
-use Rattle.omp_model.specs.declared.cause.Cause.{Cause}
+use Rattle.std.proofs.lemmas.{List.take_all, List.drop_all, List.Elements.filter-append, Bool.Decides.eqb_tells}
+use Rattle.team_run.specs.Names.{Item, Record, initialized, told, Cause, Entry, Run, heard, heard_of, mask_of}
 use Rattle.omp_model.specs.declared.cause.Cause.TheVariants as causes
-use Rattle.omp_model.specs.declared.history.Entry.{Entry}
-use Rattle.omp_model.specs.State.{Run}
-use Rattle.omp_model.specs.Heard.{heard, heard_of}
-use Rattle.team_run.specs.Serving.{Becomes, ChangesFirst, called_for, served, Serves, OnlyUnheard, told_on, finished_by, RunsParts, AreSame}
-use Rattle.tool_api.specs.Registering.{mask_of}
+use Rattle.team_run.specs.Serving.{Becomes, ChangesFirst, called_for, served, Serves, OnlyUnheard, told_on, finished_by}
+use Rattle.team_run.specs.Serving.{RunsParts, AreSame}
 use Rattle.team_run.specs.Unheard.{AreUnheard, is_of, unheard_on}
 use Rattle.team_run.specs.Standing.{AreSilent, HearsSilent, HearsOwn}
 

@@ -1,3 +1,4 @@
+pub mod Names
 pub mod Program
 pub mod Serving
 pub mod Standing

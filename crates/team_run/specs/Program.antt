@@ -1,15 +1,9 @@
 -- The run of a program with these settings, and what a run gave.
 use Rattle.std.specs.Prelude.{ℕ, ◌≡◌, ◌≢◌, Bool, List, Some}
-use Rattle.c_syntax.specs.language.Numbered.{TreeView}
-use Rattle.tool_api.specs.Record.{Record}
-use Rattle.tool_api.specs.Registering.{AreAlways}
+use Rattle.team_run.specs.Names.{Record, AreAlways, cause_of, Legal, after, Run}
 use Rattle.omp_model.specs.declared.cause.Cause.TheVariants as causes
-use Rattle.omp_model.specs.Cause.{cause_of}
-use Rattle.omp_model.specs.Legal.{Legal, after}
-use Rattle.omp_model.specs.State.{Run}
-use Rattle.team_run.specs.declared.ran.Ran.{Ran}
-use Rattle.team_run.specs.Serving.{AreSame, RunsParts}
-use Rattle.team_run.specs.Standing.{HearsOwn}
+use Rattle.c_syntax.specs.language.Numbered.{TreeView}
+use Rattle.team_run.specs.{declared.ran.Ran.Ran, Serving.AreSame, Serving.RunsParts, Standing.HearsOwn}
 
 -- the run of this program with this mask, so many threads and so many silent steps
 abbrev pub run_of_program : TreeView → ℕ → ℕ → ℕ → Run

@@ -1,20 +1,11 @@
 -- What the parts of a run are called for: each registered event of its thread, and the first of them also for the start and the
 -- end of the run.
 use Rattle.std.specs.Prelude.{ℕ, ◌≡◌, ◌≢◌, ◌<◌, ◌==◌, if◌then◌else◌, Bool, false, List, ◌++◌, length, slice_index_or, Option}
-use Rattle.ompt_calls.specs.declared.call.Call.{Call}
-use Rattle.ompt_calls.specs.declared.snapshot.Snapshot.{Snapshot}
-use Rattle.ompt_calls.specs.declared.reply.Reply.{Reply}
-use Rattle.ompt_calls.specs.Item.{Item, item_of}
-use Rattle.ompt_calls.specs.Snapshot.{stores_of}
-use Rattle.tool_api.specs.Record.{Record, initialized, told, finalized}
-use Rattle.tool_api.specs.Registering.{mask_of}
-use Rattle.omp_model.specs.declared.cause.Cause.{Cause}
+use Rattle.team_run.specs.Names.{Call, Snapshot, Reply, Item, item_of, stores_of, Record, initialized, told, mask_of, Cause, Entry, Run}
+use Rattle.team_run.specs.Names.{heard_of, event_reply}
 use Rattle.omp_model.specs.declared.cause.Cause.TheVariants as causes
-use Rattle.omp_model.specs.declared.history.Entry.{Entry}
-use Rattle.omp_model.specs.State.{Run}
-use Rattle.omp_model.specs.Heard.{heard_of}
+use Rattle.tool_api.specs.Record.{finalized}
 use Rattle.team_run.specs.Unheard.{AreUnheard, IsUnheard, is_of, unheard_if, unheard_on}
-use Rattle.omp_model.specs.Storing.{event_reply}
 
 -- part k, whatever it stood for before, stands afterwards for what this makes of it
 abbrev pub Becomes : {P : Type 0} → (P → Record → Type 0) → List P → List P → ℕ → (Record → Record) → Type 0

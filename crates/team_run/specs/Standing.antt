@@ -1,12 +1,6 @@
 -- What a serial run under way has come to.
 use Rattle.std.specs.Prelude.{ℕ, ◌≡◌, ◌<◌, ◌≤◌, true, List, [], ◌∷◌, None}
-use Rattle.ompt_calls.specs.Item.{Item}
-use Rattle.omp_model.specs.declared.history.Entry.{Entry}
-use Rattle.omp_model.specs.State.{Run, State}
-use Rattle.omp_model.specs.Cause.{none_pending}
-use Rattle.omp_model.specs.Heard.{heard_of}
-use Rattle.omp_model.specs.Legal.{after}
-use Rattle.omp_model.specs.Serial.{Serial, StoresNothing}
+use Rattle.team_run.specs.Names.{Item, Entry, Run, none_pending, heard_of, after, Serial, StoresNothing}
 use Rattle.omp_model.specs.Running.{HasRun}
 
 -- nothing was stored during these calls
@@ -22,18 +16,17 @@ HearsSilent run history = (k : ℕ) → k < run.threads → AreSilent (heard_of 
 abbrev pub HearsOwn : Run → List Entry → Type 0
 HearsOwn run history = (k : ℕ) → run.threads ≤ k → heard_of run history k ≡ []
 
--- the history leads to this state, where nobody is inside a callback
-pub record StandsAt (run : Run) (state : State) (from : ℕ) (history : List Entry) : Type 0 where
+-- the history leads to a state where nobody is inside a callback
+pub record StandsAt (run : Run) (from : ℕ) (history : List Entry) : Type 0 where
   pub some : 1 ≤ run.threads
   pub few : run.threads ≤ 16
   pub within : from ≤ run.threads
-  pub nobody : none_pending state ≡ true
-  pub has_run : HasRun run history (record { state = state; next = from; inside = None })
+  pub nobody : none_pending (after run history) ≡ true
+  pub has_run : HasRun run history (record { state = after run history; next = from; inside = None })
   pub own : HearsOwn run history
   pub silent : HearsSilent run history → StoresNothing history
 
--- a history at which a run may stop, and the state to which it leads
-pub record StopsAt (run : Run) (state : State) (history : List Entry) : Type 0 where
+-- a history at which a run may stop
+pub record StopsAt (run : Run) (history : List Entry) : Type 0 where
   pub serial : Serial run history
   pub own : HearsOwn run history
-  pub reached : after run history ≡ state

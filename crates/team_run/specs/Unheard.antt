@@ -1,17 +1,9 @@
 -- The calls that went unheard: the part of a thread was called for an event, and found no memory. And what that adds to the parts' records.
 use Rattle.std.specs.Prelude.{ℕ, ◌≡◌, ◌≢◌, ◌<◌, ◌==◌, Bool, true, false, IsTrue, if◌then◌else◌, List, [], ◌∷◌, ◌++◌, Option, Some, None}
-use Rattle.ompt_calls.specs.declared.call.Call.{Call}
-use Rattle.ompt_calls.specs.declared.snapshot.Snapshot.{Snapshot}
-use Rattle.tool_api.specs.Record.{Record, one_unheard}
-use Rattle.omp_model.specs.declared.cause.Cause.{Cause}
+use Rattle.team_run.specs.Names.{Call, Snapshot, Record, one_unheard, Cause, Entry, Callback, Run, pending_at, after, none_pending, go_at}
+use Rattle.team_run.specs.Names.{Owes}
 use Rattle.omp_model.specs.declared.cause.Cause.TheVariants as causes
-use Rattle.omp_model.specs.declared.history.Entry.{Entry}
-use Rattle.omp_model.specs.declared.event.Callback.{Callback}
-use Rattle.omp_model.specs.State.{Run, pending_at}
-use Rattle.omp_model.specs.Legal.{after, is_told}
-use Rattle.omp_model.specs.Cause.{none_pending}
-use Rattle.omp_model.specs.Storing.{go_at}
-use Rattle.step_book.specs.Owing.{Owes}
+use Rattle.omp_model.specs.Legal.{is_told}
 
 -- the history ends with this thread's Go, and the thread is inside a callback that is registered: it was called, and has not
 -- returned

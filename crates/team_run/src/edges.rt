@@ -1,9 +1,8 @@
 //! The start and the end of the first part.
 
 ghost use Rattle.std.specs.Prelude.{◌≡◌, ◌<◌, length};
-ghost use Rattle.tool_api.specs.Record.{Record, initialized};
+ghost use Rattle.team_run.specs.Names.{Record, initialized, AreAlways, mask_of};
 ghost use Rattle.team_run.specs.Serving.{ChangesFirst, finished_by};
-ghost use Rattle.tool_api.specs.Registering.{AreAlways, mask_of};
 
 use tool_api::{Registrar, ToolPart};
 

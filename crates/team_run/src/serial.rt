@@ -1,9 +1,8 @@
 //! The serial run: threads take turns round and round, each a whole turn with its callback.
 
 ghost use Rattle.std.specs.Prelude.{◌≡◌, ◌≢◌, ◌≤◌, [], IfOk, length, true};
-ghost use Rattle.omp_model.specs.Serial.{Serial, serial};
-ghost use Rattle.team_run.specs.Program.{IsRan, run_of};
-ghost use Rattle.team_run.specs.Standing.{HearsSilent};
+ghost use Rattle.team_run.specs.Names.{Serial, serial};
+ghost use Rattle.team_run.specs.{Program.IsRan, Program.run_of, Standing.HearsSilent};
 
 use crate::edges::{finalize_first, initialize_first, mask_of};
 use crate::ran::{Memory, Ran};

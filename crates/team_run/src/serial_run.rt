@@ -1,11 +1,7 @@
 //! A serial run under way.
 
 ghost use Rattle.std.specs.Prelude.{◌≡◌, ◌≢◌, ◌<◌, ◌+◌, Some, None, OnOk, OnErr, length};
-ghost use Rattle.omp_model.specs.Gates.{arrival};
-ghost use Rattle.omp_model.specs.Serial.{first_enabled};
-ghost use Rattle.omp_model.specs.Cause.{cause_of};
-ghost use Rattle.step_book.specs.Owing.{Owes};
-ghost use Rattle.step_book.specs.BookView.{state_of};
+ghost use Rattle.team_run.specs.Names.{arrival, first_enabled, cause_of, Owes, state_of};
 ghost use Rattle.team_run.specs.Serving.{Answers, OnlyUnheard, AreSame, ServesTo};
 ghost use Rattle.team_run.specs.Standing.{StandsAt, StopsAt};
 
@@ -30,15 +26,14 @@ pub(crate) struct SerialRun<P> {
 impl<P: ToolPart> SerialRun<P> {
     /// Takes turns until no thread can go on, or there is no memory. It answers why the run ended.
     pub fn finish(&mut self) -> Cause
-        requires stands { StandsAt self.old.book.run (state_of self.old.book) self.old.next self.old.book.history }
+        requires stands { StandsAt self.old.book.run self.old.next self.old.book.history }
         requires parts { length self.old.parts.items ≡ self.old.book.run.threads }
         ensures run { self.new.book.run ≡ self.old.book.run }
         ensures serves { ServesTo P.stands_for self.old.book.run self.old.parts.items self.old.book.history
             self.new.parts.items self.new.book.history }
         ensures same { AreSame P.same self.old.parts.items self.new.parts.items }
-        ensures stops { StopsAt self.old.book.run (state_of self.new.book) self.new.book.history }
-        ensures stands { result ≢ Cause.Memory →
-            StandsAt self.new.book.run (state_of self.new.book) self.new.next self.new.book.history }
+        ensures stops { StopsAt self.old.book.run self.new.book.history }
+        ensures stands { result ≢ Cause.Memory → StandsAt self.new.book.run self.new.next self.new.book.history }
         ensures over { result ≢ Cause.Memory →
             first_enabled self.new.book.run (state_of self.new.book) self.new.next ≡ None }
         ensures cause { result ≢ Cause.Memory → cause_of self.new.book.run self.new.book.history ≡ Some result }
@@ -57,7 +52,7 @@ impl<P: ToolPart> SerialRun<P> {
 
     /// One turn of the thread, with its callback.
     fn visit(&mut self, ready: Ready) -> Result<(), Memory>
-        requires stands { StandsAt self.old.book.run (state_of self.old.book) self.old.next self.old.book.history }
+        requires stands { StandsAt self.old.book.run self.old.next self.old.book.history }
         requires turn { first_enabled self.old.book.run (state_of self.old.book) self.old.next ≡ Some ready.thread }
         requires arrival { ready.arrival ≡ arrival (state_of self.old.book).world ready.thread }
         requires parts { length self.old.parts.items ≡ self.old.book.run.threads }
@@ -65,9 +60,8 @@ impl<P: ToolPart> SerialRun<P> {
         ensures serves { ServesTo P.stands_for self.old.book.run self.old.parts.items self.old.book.history
             self.new.parts.items self.new.book.history }
         ensures same { AreSame P.same self.old.parts.items self.new.parts.items }
-        ensures stops { StopsAt self.old.book.run (state_of self.new.book) self.new.book.history }
-        ensures stands { OnOk result
-            (StandsAt self.new.book.run (state_of self.new.book) self.new.next self.new.book.history) }
+        ensures stops { StopsAt self.old.book.run self.new.book.history }
+        ensures stands { OnOk result (StandsAt self.new.book.run self.new.next self.new.book.history) }
         ensures turns { OnOk result ((state_of self.new.book).turns ≡ (state_of self.old.book).turns + 1) }
     {
         let thread = ready.thread;

@@ -1,4 +1,4 @@
-//! The answers to registrations, and the states, against values written out by hand.
+//! The answers to registrations, and the states, against values written out by hand. The constants are tables, a row a case.
 
 use omp_codes::callbacks::{DISPATCH, IMPLICIT_TASK};
 use omp_codes::{

@@ -1,4 +1,4 @@
-//! Two tools in one, against what each is to hear and what is to be stored, written out by hand.
+//! Two tools in one, against what each is to hear and what is to be stored, written out by hand. The constants are tables, a row a case.
 
 ghost use Rattle.std.specs.Prelude.{⊤};
 

@@ -1,9 +1,9 @@
 //! What a row is to come to.
 
 use crate::given::Came;
-use crate::row_fault::RowFault;
 use crate::wanted::Wanted;
 use std::alloc::{AllocError, Global};
+use test_rows::RowFault;
 
 /// A status, a number of entries, and what is to be written.
 #[derive(Drop)]

@@ -1,11 +1,11 @@
 //! What a row hands to the command, and what the command came to.
 
-use crate::row_fault::RowFault;
 use ompt_cli::{Report, top};
 use run_edges::{MemSink, MemSource, Script};
 use std::alloc::{AllocError, Global};
 use std::sync::Wait;
 use std::thread::Threads;
+use test_rows::RowFault;
 
 /// How many bytes an output has room for.
 const ROOM: usize = 0x20_0000;

@@ -51,7 +51,6 @@ mod expected;
 mod given;
 mod piece;
 mod row;
-mod row_fault;
 mod table;
 mod wanted;
 

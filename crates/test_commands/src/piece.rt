@@ -11,8 +11,9 @@
 //! | `#12` | the text so many times, with 1, 2, and so on behind it |
 //! | `x` | the bytes of these hexadecimal digits, which may have blanks between the bytes |
 
-use crate::row_fault::RowFault;
-use std::alloc::Global;
+use hex::FromHexError;
+use std::alloc::{AllocError, Global};
+use test_rows::RowFault;
 
 /// Adds the bytes of this mode and text.
 pub(crate) fn add_piece(
@@ -82,7 +83,15 @@ fn add_numbered(
 /// Adds the bytes of hexadecimal digits.
 fn add_digits(bytes: &mut Vec<u8>, alloc: Global, text: &str) -> Result<(), RowFault> {
     for digits in text.split(' ') {
-        bytes.extend_from_slice(&hex::decode(alloc, digits)?)?;
+        bytes.extend_from_slice(&hex::decode(alloc, digits).map_err(fault_of_digits)?)?;
     }
     Ok(())
+}
+
+/// Why these digits can't be read.
+fn fault_of_digits(error: FromHexError) -> RowFault {
+    match error {
+        FromHexError::OutOfMemory => RowFault::Memory(AllocError),
+        _ => RowFault::NoBytes,
+    }
 }

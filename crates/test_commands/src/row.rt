@@ -3,10 +3,10 @@
 use crate::expected::Expected;
 use crate::given::{Given, add_calls};
 use crate::piece::add_piece;
-use crate::row_fault::RowFault;
 use std::alloc::Global;
 use std::sync::Wait;
 use std::thread::Threads;
+use test_rows::RowFault;
 
 /// A row of a table.
 #[derive(Drop)]
@@ -77,7 +77,7 @@ impl Row {
                 let difference = expected.difference(alloc, &came)?;
                 told(alloc, name.as_str(), difference, is_unlike)
             }
-            Err(_) => Err(RowFault::Memory),
+            Err(error) => Err(RowFault::Memory(error)),
         }
     }
 }

@@ -2,10 +2,10 @@
 
 use crate::piece::add_piece;
 use crate::row::Row;
-use crate::row_fault::RowFault;
 use std::alloc::Global;
 use std::sync::Wait;
 use std::thread::Threads;
+use test_rows::RowFault;
 
 /// What the lines of a table said so far.
 #[derive(Drop)]

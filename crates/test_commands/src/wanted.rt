@@ -1,8 +1,8 @@
 //! What is wanted of an output: its bytes, or some of its lines.
 
 use crate::piece::add_piece;
-use crate::row_fault::RowFault;
 use std::alloc::Global;
+use test_rows::RowFault;
 
 /// What an output is to be: parts, one behind the other.
 #[derive(Drop)]

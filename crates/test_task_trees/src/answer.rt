@@ -1,8 +1,8 @@
 //! What a trace comes to.
 
-use crate::row_fault::RowFault;
 use run_edges::MemSource;
-use std::alloc::Global;
+use std::alloc::{AllocError, Global};
+use test_rows::RowFault;
 use tool_tasks::{Forest, TaskNode, Unread, read_nested};
 
 /// What the trace of this source comes to, with a line on each of these tasks.
@@ -26,7 +26,7 @@ fn why(alloc: Global, unread: Unread) -> Result<String, RowFault> {
         Unread::Refused(refusal) => format!(in alloc; "{refusal}\n")?,
         Unread::Broken(breach) => format!(in alloc; "breach {} at {}\n", breach.rule, breach.seq)?,
         Unread::ReadFault => String::from_str(alloc, "a read failed\n")?,
-        Unread::Memory => return Err(RowFault::Memory),
+        Unread::Memory => return Err(RowFault::Memory(AllocError)),
     };
     Ok(line)
 }

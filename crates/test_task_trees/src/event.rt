@@ -15,10 +15,10 @@
 //! | `24 1 work 3 1 2 3 1` | the kind, the endpoint, the region, the task and the count |
 //! | `12 0 masked 1 2 2` | the endpoint, the region and the task |
 
-use crate::row_fault::RowFault;
 use omp_codes::parallel_flags::TEAM_OF_PROGRAM;
 use ompt_calls::{Call, EventRecord, Frame, Word};
 use std::alloc::Global;
+use test_rows::RowFault;
 
 /// No frame.
 const NOWHERE: Frame = Frame { exit: 0, enter: 0 };

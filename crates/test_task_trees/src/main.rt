@@ -28,13 +28,11 @@
 mod answer;
 mod event;
 mod row;
-mod row_fault;
 
 use row::Row;
-use row_fault::RowFault;
 use std::alloc::Global;
 use std::io::{self, BufRead, BufReader};
-use test_rows::{Tally, Verdict};
+use test_rows::{RowFault, Tally, Verdict};
 
 fn main(rt: HostRuntime) -> io::Result<()> {
     let mut row = None;

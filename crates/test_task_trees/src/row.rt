@@ -2,11 +2,11 @@
 
 use crate::answer::answer;
 use crate::event::event_of;
-use crate::row_fault::RowFault;
 use omp_codes::PROFILE_MASK;
 use ompt_calls::EventRecord;
 use run_edges::{MemSink, MemSource};
-use std::alloc::Global;
+use std::alloc::{AllocError, Global};
+use test_rows::RowFault;
 use trace_format::{EndMark, Header, Item, RECORDED, VERSION, write_item};
 
 /// How many bytes a trace has room for.
@@ -119,7 +119,7 @@ impl Row {
 
 /// Writes an item of a trace.
 fn put_item(sink: &mut MemSink, item: &Item) -> Result<(), RowFault> {
-    write_item(sink, item).map_err(|_| RowFault::Memory)
+    write_item(sink, item).map_err(|_| RowFault::Memory(AllocError))
 }
 
 /// The first bytes, so many at most.

@@ -1,4 +1,5 @@
-//! The state of a thread at each of its events, and what it waits for, against values written out by hand.
+//! The state of a thread at each of its events, and what it waits for, against values written out by hand. The constants are tables, a row
+//! a case.
 
 use crate::parts::{Heard, run_on_two};
 use omp_model::Cause;

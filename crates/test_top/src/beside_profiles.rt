@@ -1,4 +1,4 @@
-//! Guests beside profiles: what each guest hears, and what is written.
+//! Guests beside profiles: what each guest hears, and what is written. The constants are tables, a row a case.
 
 use crate::fixture::*;
 use crate::listening::{ACTIVE, Habits};

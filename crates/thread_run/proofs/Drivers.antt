@@ -1,28 +1,17 @@
 -- The drivers of a run: as they are started, and once all have come back.
 use Rattle.std.proofs.Common.{◌≡◌, ◌≢◌, ℕ, zero, suc, ◌+◌, ◌<◌, ◌≤◌, Bool, true, false, if◌then◌else◌, List, [], ◌∷◌, ◌++◌, length, length-append, replicate, get_or, slice_index_or, slice_set, drop, Option, Some, None, IfSome, refl, sym, ap, subst, ◌∙◌, append_assoc, inl, inr, ◌⊎◌, arith}
 use Rattle.std.proofs.lemmas.Bool.{true≢false, cases_eq, cases_lt, or_left, or_right}
-use Rattle.std.proofs.lemmas.List.{drop_more, get_or_append_left, get_or_at, get_or_default, get_or_past, get_or_push, get_or-replicate, get_or-set_same, get_or-set_other, length-drop, length-replicate}
-use Rattle.tool_api.specs.Record.{Record}
-use Rattle.omp_model.specs.declared.cause.Cause.{Cause}
+use Rattle.std.proofs.lemmas.List.{drop_more, get_or_append_left, get_or_at, get_or_default, get_or_past, get_or_push}
+use Rattle.std.proofs.lemmas.List.{get_or-replicate, get_or-set_same, get_or-set_other, length-drop, length-replicate}
+use Rattle.team_run.specs.Names.{Record, Cause, Callback, Entry, Run, first, pending_at, cause_of, heard_of, after}
+use Rattle.team_run.specs.Names.{Closed, NotBy, entries_of, PassView}
 use Rattle.omp_model.specs.declared.cause.Cause.TheVariants as causes
-use Rattle.omp_model.specs.declared.event.Callback.{Callback}
-use Rattle.omp_model.specs.declared.history.Entry.{Entry}
-use Rattle.omp_model.specs.State.{Run, first, pending_at}
-use Rattle.omp_model.specs.Cause.{cause_of}
-use Rattle.omp_model.specs.Heard.{heard_of}
-use Rattle.omp_model.specs.Legal.{after}
-use Rattle.step_book.specs.declared.closed.Closed.{Closed}
-use Rattle.step_book.specs.Owing.{NotBy}
-use Rattle.step_book.specs.Rule.{NoneBy, entries_of}
-use Rattle.step_book.specs.Sharing.{AreOwn, IsClosed, PassView, any_ended, fresh_pass}
+use Rattle.step_book.specs.{Rule.NoneBy, Sharing.AreOwn, Sharing.IsClosed, Sharing.any_ended, Sharing.fresh_pass}
 use Rattle.step_book.proofs.Others.{entries-append, holds-others, own-back}
 use Rattle.thread_run.specs.Driving.{IsDriven}
 use Rattle.thread_run.specs.Drivers.{AreDrivers, AreFor, AreKept, HaveServed, IsDriver}
-use Rattle.team_run.specs.Serving.{called_for}
-use Rattle.team_run.specs.Unheard.{LeftAt}
-use Rattle.team_run.specs.Standing.{HearsOwn}
+use Rattle.team_run.{specs.Serving.called_for, specs.Unheard.LeftAt, specs.Standing.HearsOwn, proofs.Serving.served-nil}
 use Rattle.thread_run.proofs.Driving.{heard-others, left-others}
-use Rattle.team_run.proofs.Serving.{served-nil}
 
 abbrev nobody : Option Callback
 nobody = None
@@ -116,9 +105,8 @@ hears-own run passes history closed k past =
 
 -- the cause where no pass has ended the run for want of memory
 cause-known : (ended : Bool) (cause found : Option Cause) → cause ≡ (if ended then Some causes.Memory else found) → IfSome cause (λ cause. cause ≢ causes.Memory → found ≡ Some cause)
-cause-known true None found is = tt
+cause-known ended None found is = tt
 cause-known true (Some cause) found is = λ other. let same : cause ≡ causes.Memory = cc in absurd (other same)
-cause-known false None found is = tt
 cause-known false (Some cause) found is = λ other. sym is
 
 any-at : (passes : List PassView) (k : ℕ) (d : PassView) → k < length passes → (get_or passes k d).ended ≡ true → any_ended passes ≡ true

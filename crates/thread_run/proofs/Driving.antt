@@ -1,48 +1,26 @@
 -- What a driver's part was called for, after each call of its pass.
 use Rattle.std.proofs.Common.{◌≡◌, ℕ, ◌+◌, ◌<◌, Bool, true, false, if◌then◌else◌, List, [], ◌∷◌, ◌++◌, length, Option, Some, None, Result, Ok, Err, IfOk, OnErr, slice_index_or, slice_set, get_or-set_same, refl, sym, ap, subst, ◌∙◌, append_assoc, append-nil, inl, inr, arith}
 use Rattle.std.specs.Result.{IsOk}
-use Rattle.std.proofs.lemmas.Bool.{true≢false, cases_lt}
-use Rattle.std.proofs.lemmas.List.{get_or_past, length-set, length-replicate}
-use Rattle.ompt_calls.specs.declared.call.Call.{Call}
-use Rattle.ompt_calls.specs.declared.reply.Reply.{Reply}
-use Rattle.ompt_calls.specs.declared.snapshot.Snapshot.{Snapshot}
-use Rattle.ompt_calls.specs.Item.{Item, item_of}
-use Rattle.ompt_calls.specs.Number.{is_registered}
-use Rattle.ompt_calls.specs.Snapshot.{Stored, stores_of}
-use Rattle.tool_api.specs.Record.{Record, one_unheard, told}
-use Rattle.omp_model.specs.declared.cause.Cause.{Cause}
+use Rattle.std.proofs.lemmas.{Bool.true≢false, Bool.cases_lt, List.get_or_past, List.length-set, List.length-replicate}
+use Rattle.team_run.specs.Names.{Call, Reply, Snapshot, Item, item_of, is_registered, Stored, stores_of, Record}
+use Rattle.team_run.specs.Names.{one_unheard, told, Cause, Callback, Event, Entry, Run, State, first, pending_at}
+use Rattle.team_run.specs.Names.{call_of, callback_of, heard_of, Legal, after, after_from, back, back_from, entered}
+use Rattle.team_run.specs.Names.{inside_after, snap_of, event_reply, go_at, turn, Step, Told, NotBy, Owes, BookView}
+use Rattle.team_run.specs.Names.{state_of, entries_of, AddsHold, PassView, book_after, turn_visit}
 use Rattle.omp_model.specs.declared.cause.Cause.TheVariants as causes
-use Rattle.omp_model.specs.declared.event.Callback.{Callback}
-use Rattle.omp_model.specs.declared.event.Event.{Event}
 use Rattle.omp_model.specs.declared.event.Outcome.TheVariants as outcome
-use Rattle.omp_model.specs.declared.history.Entry.{Entry}
-use Rattle.omp_model.specs.State.{Run, State, first, pending_at}
-use Rattle.omp_model.specs.Calls.{call_of, callback_of}
-use Rattle.omp_model.specs.Heard.{heard_of}
-use Rattle.omp_model.specs.Legal.{AllowsFrom, Legal, after, after_from, back, back_from, entered}
-use Rattle.omp_model.specs.Serial.{inside_after}
-use Rattle.omp_model.specs.Snapshots.{snap_of}
-use Rattle.omp_model.specs.Storing.{back_at, event_reply, go_at, puts_at}
-use Rattle.omp_model.specs.Turn.{turn}
+use Rattle.omp_model.specs.{Legal.AllowsFrom, Storing.back_at, Storing.puts_at}
 use Rattle.omp_model.proofs.Turns.{leaves-turn, turn-goes}
-use Rattle.step_book.specs.declared.hold.Hold.{Hold}
-use Rattle.step_book.specs.declared.step.Step.{Step}
-use Rattle.step_book.specs.declared.step.Step.TheVariants.{Told, Quiet, NotYet, Ended}
-use Rattle.step_book.specs.Owing.{NotBy, Owes}
-use Rattle.step_book.specs.BookView.{BookView, state_of}
-use Rattle.step_book.specs.Rule.{entries_of}
-use Rattle.step_book.specs.Sharing.{AnswersThen, VisitsAfterOthers, AddsHold, IsHold, PassView, book_after}
-use Rattle.step_book.specs.Steps.{hold_by}
-use Rattle.step_book.specs.Visit.{Visit, idle_by, idle_step, is_turn, turn_visit, visit}
-use Rattle.step_book.proofs.Histories.{after-append}
+use Rattle.step_book.specs.declared.step.Step.TheVariants.{Quiet, NotYet, Ended}
+use Rattle.step_book.specs.Sharing.{AnswersThen, VisitsAfterOthers, IsHold}
+use Rattle.step_book.specs.Visit.{Visit, idle_by, idle_step, is_turn, visit}
+use Rattle.step_book.specs.{declared.hold.Hold.Hold, Steps.hold_by}
 use Rattle.step_book.proofs.Others.{entries-append, entries-others, not_by-append, owes-still}
 use Rattle.step_book.proofs.Telling.{ended-step, not_yet-step, quiet-step, told-step}
-use Rattle.step_book.proofs.Visiting.{visit-idle, visit-turn}
+use Rattle.step_book.proofs.{Histories.after-append, Visiting.visit-idle, Visiting.visit-turn}
 use Rattle.thread_run.specs.Driving.{GoesOn, HasCome, HasStep, IsDriven, IsInside}
-use Rattle.team_run.specs.Serving.{served}
-use Rattle.team_run.specs.Unheard.{LeftAt}
+use Rattle.team_run.{specs.Serving.served, specs.Unheard.LeftAt, proofs.Visiting.same-pending}
 use Rattle.thread_run.proofs.Hearing.{answered, back-others, heard-split, heard_on, more-without}
-use Rattle.team_run.proofs.Visiting.{same-pending}
 
 -- Entries that leave a thread as it was.
 
@@ -278,9 +256,7 @@ module _ {P : Type 0} (stands_for : P → Record → Type 0) (Same : P → P →
   -- a visit of a pass that hasn't ended the run
   step-gone : (pass later : PassView) (part : P) (step : Step) → pass.thread < run.threads → pass.ended ≡ false → later.ended ≡ pass.ended → VisitsAfterOthers run pass step later → Driven pass part → HasStep stands_for Same run whose later part step
   step-gone pass later part (Told seq call snapshot) below ended same goes driven = (same ∙ ended, inside-told pass later part seq call snapshot ended goes driven)
-  step-gone pass later part Quiet below ended same goes driven = driven-quiet pass later part Quiet below ended goes (λ seq call snapshot told. cc) driven
-  step-gone pass later part NotYet below ended same goes driven = driven-quiet pass later part NotYet below ended goes (λ seq call snapshot told. cc) driven
-  step-gone pass later part (Ended cause) below ended same goes driven = driven-quiet pass later part (Ended cause) below ended goes (λ seq call snapshot told. cc) driven
+  step-gone pass later part step below ended same goes driven = driven-quiet pass later part step below ended goes (λ seq call snapshot told. cc) driven
 
   -- a visit, and then no memory
   driven-ended : (pass later last : PassView) (part : P) → AddsHold pass later [] → later.ended ≡ pass.ended → AddsHold later last [] → last.ended ≡ true → Driven pass part → Driven last part

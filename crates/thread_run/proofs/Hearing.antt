@@ -1,28 +1,16 @@
 -- What a thread hears of a history in which entries of others stand between its own.
 use Rattle.std.proofs.Common.{◌≡◌, ◌≢◌, ℕ, ◌+◌, ◌<◌, ◌==◌, ◌&&◌, ◌||◌, Bool, true, false, if◌then◌else◌, List, [], ◌∷◌, ◌++◌, length, Option, Some, None, slice_index_or, slice_set, get_or-set_same, refl, sym, ap, subst, ◌∙◌, append_assoc, append-nil, eq-eqb, arith, inl, inr, ◌⊎◌}
-use Rattle.std.proofs.lemmas.Bool.{true≢false, or_parts, or_right, cases_lt}
-use Rattle.std.proofs.lemmas.Bool.Decides.{eqb_tells}
-use Rattle.std.proofs.lemmas.List.{get_or_past, get_or-set_other, length-set}
-use Rattle.std.proofs.lemmas.List.Elements.{filter-append}
-use Rattle.ompt_calls.specs.Item.{Item}
-use Rattle.ompt_calls.specs.Number.{is_registered}
-use Rattle.ompt_calls.specs.Snapshot.{Stored}
-use Rattle.omp_model.specs.declared.event.Callback.{Callback}
-use Rattle.omp_model.specs.declared.event.Event.{Event}
-use Rattle.omp_model.specs.declared.event.Outcome.{Outcome}
+use Rattle.std.proofs.lemmas.{Bool.true≢false, Bool.or_parts, Bool.or_right, Bool.cases_lt, Bool.Decides.eqb_tells}
+use Rattle.std.proofs.lemmas.{List.get_or_past, List.get_or-set_other, List.length-set, List.Elements.filter-append}
+use Rattle.team_run.specs.Names.{Item, is_registered, Stored, Callback, Event, Outcome, Entry, Run, State, pending_at}
+use Rattle.team_run.specs.Names.{call_of, callback_of, after_from, back_from, entered, put_from, snap_of, event_reply}
+use Rattle.team_run.specs.Names.{go_at, called, turn, NotBy}
 use Rattle.omp_model.specs.declared.event.Outcome.TheVariants as outcome
-use Rattle.omp_model.specs.declared.history.Entry.{Entry}
-use Rattle.omp_model.specs.declared.history.What.{What}
 use Rattle.omp_model.specs.declared.history.What.TheVariants.{Go, Put, Back}
-use Rattle.omp_model.specs.State.{Run, State, World, pending_at}
-use Rattle.omp_model.specs.Calls.{call_of, callback_of}
-use Rattle.omp_model.specs.Heard.{has_back, heard_at, heard_event, heard_from, heard_outcome, is_back, stores_at, stores_in}
-use Rattle.omp_model.specs.Legal.{after_from, back_from, does, entered, put_from}
-use Rattle.omp_model.specs.Snapshots.{snap_of}
-use Rattle.omp_model.specs.Storing.{event_reply, go_at, put_at}
-use Rattle.omp_model.specs.Turn.{called, turn}
+use Rattle.omp_model.specs.{declared.history.What.What, State.World, Heard.has_back, Heard.heard_at, Heard.heard_event}
+use Rattle.omp_model.specs.{Heard.heard_from, Heard.heard_outcome, Heard.is_back, Heard.stores_at, Heard.stores_in}
+use Rattle.omp_model.specs.{Legal.does, Storing.put_at}
 use Rattle.omp_model.proofs.Turns.{Leaves, leaves-turn}
-use Rattle.step_book.specs.Owing.{NotBy}
 use Rattle.team_run.proofs.Serving.{on_thread}
 
 -- a Back of the thread among these or those entries
@@ -54,8 +42,7 @@ stores-front t (entry ∷ xs) ys back = elim (eqb_tells entry.thread t) [
   where
     behind : (what : What) (b : Bool) → ((is_back what && false) || b) ≡ true → b ≡ true
     behind Go b said = said
-    behind (Put place word) b said = said
-    behind Back b said = said
+    behind what b said = said
 
     stores-own : (t : ℕ) (what : What) (xs ys : List Entry) → ((is_back what && true) || has_back t xs) ≡ true → (has_back t xs ≡ true → stores_in t (xs ++ ys) ≡ stores_in t xs) → stores_at what (stores_in t (xs ++ ys)) ≡ stores_at what (stores_in t xs)
     stores-own t Go xs ys back more = more back
@@ -71,15 +58,12 @@ event-other run position u W event rest t other =
     elim (is_registered run.mask (callback_of event) && has_back u rest) as (λ b. on_thread t (if b then item ∷ [] else []) ≡ []) [ true ↦ one | false ↦ refl ]
 
 outcome-other : (run : Run) (position u : ℕ) (S : State) (o : Outcome) (rest : List Entry) (t : ℕ) → (u == t) ≡ false → on_thread t (heard_outcome run position u S o rest) ≡ []
-outcome-other run position u S outcome.Idle rest t other = refl
-outcome-other run position u S outcome.Quiet rest t other = refl
 outcome-other run position u S (outcome.Happens event) rest t other = event-other run position u S.world event rest t other
-outcome-other run position u S (outcome.Halts halt) rest t other = refl
+outcome-other run position u S o rest t other = refl
 
 at-other : (run : Run) (S : State) (position u : ℕ) (what : What) (rest : List Entry) (t : ℕ) → (u == t) ≡ false → on_thread t (heard_at run S position u what rest) ≡ []
 at-other run S position u Go rest t other = outcome-other run position u (turn run S u).state (turn run S u).outcome rest t other
-at-other run S position u (Put place word) rest t other = refl
-at-other run S position u Back rest t other = refl
+at-other run S position u what rest t other = refl
 
 -- what follows an event says the same of it with more behind, where its Back stands there, or no Back stands in what is more
 event-front : (run : Run) (position t : ℕ) (W : World) (event : Event) (rest more : List Entry) → (has_back t rest ≡ true) ⊎ (has_back t more ≡ false) → heard_event run position t W event (rest ++ more) ≡ heard_event run position t W event rest
@@ -91,14 +75,11 @@ event-front run position t W event rest more settled =
     by-back : (registered b : Bool) → has_back t rest ≡ b → (item : List Stored → List Item) → (if registered && b then item (stores_in t (rest ++ more)) else []) ≡ (if registered && b then item (stores_in t rest) else [])
     by-back true true there item = ap item (stores-front t rest more there)
     by-back true false none item = refl
-    by-back false true there item = refl
-    by-back false false none item = refl
+    by-back false b none item = refl
 
 outcome-front : (run : Run) (position t : ℕ) (S : State) (o : Outcome) (rest more : List Entry) → ((event : Event) → o ≡ outcome.Happens event → (has_back t rest ≡ true) ⊎ (has_back t more ≡ false)) → heard_outcome run position t S o (rest ++ more) ≡ heard_outcome run position t S o rest
-outcome-front run position t S outcome.Idle rest more settled = refl
-outcome-front run position t S outcome.Quiet rest more settled = refl
 outcome-front run position t S (outcome.Happens event) rest more settled = event-front run position t S.world event rest more (settled event refl)
-outcome-front run position t S (outcome.Halts halt) rest more settled = refl
+outcome-front run position t S o rest more settled = refl
 
 -- nothing is heard of entries without a Back of the thread
 event-without : (run : Run) (position t : ℕ) (W : World) (event : Event) (rest : List Entry) → has_back t rest ≡ false → heard_event run position t W event rest ≡ []
@@ -107,15 +88,12 @@ event-without run position t W event rest none =
     rw none (elim (is_registered run.mask (callback_of event)) as (λ b. (if b && false then item ∷ [] else []) ≡ []) [ true ↦ refl | false ↦ refl ])
 
 outcome-without : (run : Run) (position t : ℕ) (S : State) (o : Outcome) (rest : List Entry) → has_back t rest ≡ false → heard_outcome run position t S o rest ≡ []
-outcome-without run position t S outcome.Idle rest none = refl
-outcome-without run position t S outcome.Quiet rest none = refl
 outcome-without run position t S (outcome.Happens event) rest none = event-without run position t S.world event rest none
-outcome-without run position t S (outcome.Halts halt) rest none = refl
+outcome-without run position t S o rest none = refl
 
 at-without : (run : Run) (S : State) (position t : ℕ) (what : What) (rest : List Entry) → has_back t rest ≡ false → heard_at run S position t what rest ≡ []
 at-without run S position t Go rest none = outcome-without run position t (turn run S t).state (turn run S t).outcome rest none
-at-without run S position t (Put place word) rest none = refl
-at-without run S position t Back rest none = refl
+at-without run S position t what rest none = refl
 
 -- what one thread hears of these entries, from this state and position on
 abbrev pub heard_on : Run → State → ℕ → List Entry → ℕ → List Item
@@ -149,8 +127,7 @@ more-without run S position t (entry ∷ rest) more none =
   where
     at-more : (what : What) → heard_at run S position t what (rest ++ more) ≡ heard_at run S position t what rest
     at-more Go = outcome-front run position t (turn run S t).state (turn run S t).outcome rest more (λ event is. inr none)
-    at-more (Put place word) = refl
-    at-more Back = refl
+    at-more what = refl
 
 -- A thread that is inside a callback leaves it by its Back alone.
 
@@ -167,13 +144,11 @@ inside-within S t callback inside = elim (cases_lt t (length S.pending)) [
     some-none callback same = cc
 
 turn-inside : (S later : State) (u t : ℕ) (o : Outcome) → Leaves S u later o → Inside S t → Inside later t
-turn-inside S later u t outcome.Idle leaves inside = (inside.0, ap (λ pending. slice_index_or pending t None) leaves.2 ∙ inside.1)
-turn-inside S later u t outcome.Quiet leaves inside = (inside.0, ap (λ pending. slice_index_or pending t None) leaves.2 ∙ inside.1)
 turn-inside S later u t (outcome.Happens event) leaves inside = elim (eqb_tells t u) [
   | inl same ↦ (called event, ap (λ pending. slice_index_or pending t None) leaves.2 ∙ subst (λ u. slice_index_or (slice_set S.pending u (Some (called event))) t None ≡ Some (called event)) same.1 (get_or-set_same S.pending t (Some (called event)) None (inside-within S t inside.0 inside.1)))
   | inr other ↦ (inside.0, ap (λ pending. slice_index_or pending t None) leaves.2 ∙ get_or-set_other S.pending u t (Some (called event)) None other.1 ∙ inside.1)
 ]
-turn-inside S later u t (outcome.Halts halt) leaves inside = (inside.0, ap (λ pending. slice_index_or pending t None) leaves.2 ∙ inside.1)
+turn-inside S later u t o leaves inside = (inside.0, ap (λ pending. slice_index_or pending t None) leaves.2 ∙ inside.1)
 
 does-inside : (run : Run) (S : State) (u t : ℕ) (what : What) → (is_back what && u == t) ≡ false → Inside S t → Inside (does run S u what) t
 does-inside run S u t Go none inside = turn-inside S (turn run S u).state u t (turn run S u).outcome (leaves-turn run S u) inside
@@ -211,10 +186,8 @@ goes-inside run S t event within happens =
 
 -- the threads that there are
 turn-many : (S later : State) (t : ℕ) (o : Outcome) → Leaves S t later o → length later.pending ≡ length S.pending
-turn-many S later t outcome.Idle leaves = ap (λ (pending : List (Option Callback)). length pending) leaves.2
-turn-many S later t outcome.Quiet leaves = ap (λ (pending : List (Option Callback)). length pending) leaves.2
 turn-many S later t (outcome.Happens event) leaves = ap (λ (pending : List (Option Callback)). length pending) leaves.2 ∙ length-set S.pending t (Some (called event))
-turn-many S later t (outcome.Halts halt) leaves = ap (λ (pending : List (Option Callback)). length pending) leaves.2
+turn-many S later t o leaves = ap (λ (pending : List (Option Callback)). length pending) leaves.2
 
 does-many : (run : Run) (S : State) (u : ℕ) (what : What) → length (does run S u what).pending ≡ length S.pending
 does-many run S u Go = turn-many S (turn run S u).state u (turn run S u).outcome (leaves-turn run S u)
@@ -244,8 +217,7 @@ heard-split run S position t (entry ∷ rest) more within outside =
   where
     at-own : (what : What) → pending_at (after_from run (does run S t what) rest) t ≡ None → heard_at run S position t what (rest ++ more) ≡ heard_at run S position t what rest
     at-own Go left = outcome-front run position t (turn run S t).state (turn run S t).outcome rest more (λ event is. inl (left-by-back run (turn run S t).state t rest (goes-inside run S t event within is) left))
-    at-own (Put place word) left = refl
-    at-own Back left = refl
+    at-own what left = refl
 
 -- nothing is heard of stores and Backs
 pub reply-silent : (run : Run) (S : State) (position t : ℕ) (stores : List Stored) → heard_from run S position (event_reply t stores) ≡ []

@@ -1,18 +1,9 @@
 -- The drivers of a run, while they are started, and once they have come back.
 use Rattle.std.specs.Prelude.{ℕ, ◌≡◌, ◌≢◌, ◌<◌, Bool, false, List, length, get_or, IfSome, Some, Result, Ok, Err}
-use Rattle.tool_api.specs.Record.{Record}
+use Rattle.team_run.specs.Names.{Record, cause_of, Run, heard_of, Legal, after, Closed, PassView}
 use Rattle.omp_model.specs.declared.cause.Cause.TheVariants as causes
-use Rattle.omp_model.specs.Cause.{cause_of}
-use Rattle.omp_model.specs.State.{Run}
-use Rattle.omp_model.specs.Heard.{heard_of}
-use Rattle.omp_model.specs.Legal.{Legal, after}
-use Rattle.step_book.specs.declared.closed.Closed.{Closed}
-use Rattle.step_book.specs.Sharing.{PassView}
-use Rattle.team_run.specs.Serving.{AreSame, called_for}
-use Rattle.team_run.specs.Standing.{HearsOwn}
-use Rattle.team_run.specs.Unheard.{LeftAt}
-use Rattle.thread_run.specs.declared.team.Slot.{Slot}
-use Rattle.thread_run.specs.Driving.{IsDriven}
+use Rattle.team_run.specs.{Serving.AreSame, Serving.called_for, Standing.HearsOwn, Unheard.LeftAt}
+use Rattle.thread_run.specs.{declared.team.Slot.Slot, Driving.IsDriven}
 
 -- the driver of a thread, whose part was this one at first
 pub record IsDriver {P : Type 0} (stands_for : P → Record → Type 0) (Same : P → P → Type 0) (run : Run) (t : ℕ) (first : P)
@@ -27,8 +18,7 @@ IsPlaced pass_of part_of stands_for Same run t first (Ok running) = IsDriver sta
 IsPlaced pass_of part_of stands_for Same run t first (Err here) = IsDriver stands_for Same run t first here.0 here.1
 
 abbrev pub IsSlot : {K P : Type 0} → (P → Record → Type 0) → (P → P → Type 0) → Run → ℕ → P → Slot K P → Type 0
-IsSlot stands_for Same run t first slot =
-    IsPlaced (λ h. h.promise.0.value) (λ h. h.promise.1.value) stands_for Same run t first slot.driver
+IsSlot stands_for Same run t first slot = IsPlaced (λ h. h.promise.0.value) (λ h. h.promise.1.value) stands_for Same run t first slot.driver
 
 -- each of these is what this says of its place and of the part that was there at first
 abbrev pub AreFor : {P L : Type 0} → (ℕ → P → L → Type 0) → List P → List L → Type 0

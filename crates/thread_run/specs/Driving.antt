@@ -1,14 +1,7 @@
 -- What the driver of a thread has come to.
 use Rattle.std.specs.Prelude.{Bool, true, false, ◌||◌, ◌≡◌, [], Result, Ok, Err}
-use Rattle.tool_api.specs.Record.{Record}
-use Rattle.omp_model.specs.State.{Run}
-use Rattle.omp_model.specs.Heard.{heard_of}
-use Rattle.step_book.specs.declared.step.Step.{Step}
-use Rattle.step_book.specs.declared.step.Step.TheVariants.{Told}
-use Rattle.step_book.specs.Rule.{entries_of}
-use Rattle.step_book.specs.Sharing.{AddsHold, PassView}
-use Rattle.team_run.specs.Serving.{called_for, served}
-use Rattle.team_run.specs.Unheard.{LeftAt}
+use Rattle.team_run.specs.Names.{Record, Run, heard_of, Step, Told, entries_of, AddsHold, PassView}
+use Rattle.team_run.specs.{Serving.called_for, Serving.served, Unheard.LeftAt}
 
 -- the run is over for a pass: it has ended it, or its last visit told it so
 abbrev pub is_over : PassView → Bool

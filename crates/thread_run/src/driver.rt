@@ -1,9 +1,7 @@
 //! The driver of a thread: its pass to the book, and the part that is called for its events.
 
 ghost use Rattle.std.specs.Prelude.{◌≡◌, true, false, IfOk};
-ghost use Rattle.step_book.specs.Owing.{Owes, OwesStep};
-ghost use Rattle.step_book.specs.Rule.{entries_of};
-ghost use Rattle.step_book.specs.Sharing.{KeepsStep, book_after};
+ghost use Rattle.team_run.specs.Names.{Owes, OwesStep, entries_of, KeepsStep, book_after};
 ghost use Rattle.thread_run.specs.Driving.{GoesOn, HasCome, IsDriven, IsInside, is_over};
 ghost use Rattle.thread_run.specs.declared.driver.Visited.{Visited};
 

@@ -15,21 +15,13 @@
 //! In `specs/` `Driving` says what a driver's part was called for, and `Drivers` what is so of all drivers at once. What the parts of a
 //! whole run were called for is said as of a serial run (`RunsParts` of `team_run`).
 //!
-//! Proved by the contract of [`run_threads`], for every kind of part. It holds of each answer that has a run. "The run" is that
-//! of the program, the threads and the silent steps that were handed in, with the mask in the answer:
+//! Proved by the contract of [`run_threads`], for every kind of part. It holds of each answer that has a run. "The run" is
+//! that of the program, the threads and the silent steps that were handed in, with the mask in the answer. `ran` is the
+//! record that a serial run has, and the first page of `team_run` says each of its fields. All but one say the same here:
 //!
-//! - `ran.legal`: the history is legal for the run;
-//! - `ran.parts`: part 0 was started once, and the mask is what it then registered, or 0 where it answered 0. It was finished once
-//!   and after all its calls where it answered another number, and else not at all. No other part was started or finished.
-//!   Each part was called for what its thread hears of the history, in order: the position of the event, its call, its
-//!   snapshot, and the stores that took effect. Beside that a part was called at most once more, for the event whose answer its
-//!   thread owes at the end of the history, and found no memory. That is so only where the cause is
-//!   [`Memory`](omp_model::Cause::Memory). A thread whose part found memory is inside no callback at the end;
-//! - `ran.same`: each part is the same as before, by a relation of its own; `ran.always`: the mask has callbacks alone that are called
-//!   always;
-//! - `ran.own`: nothing is heard on a thread that the run doesn't have;
-//! - `ran.cause`: where the cause isn't `Memory` it is the one in which the history ends;
-//! - `ran.text`: the text is what the program has printed in the state after the history.
+//! - `ran.parts`: of each part's calls at most one went unheard, that for the event whose answer its thread owes at the end
+//!   of the history, in which the part found no memory. That is so only where the cause is
+//!   [`Memory`](omp_model::Cause::Memory). A thread whose part found memory is inside no callback at the end.
 //!
 //! Not proved:
 //!

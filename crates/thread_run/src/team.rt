@@ -82,7 +82,8 @@ fn finish<R: Threads, K: BookName, P: ToolPart>(rt: &R, slot: Slot<K, P>) -> (Pa
     }
 }
 
-/// Drives the drivers that the caller has, until the run is over. None of two may wait for the other, so they take turns.
+/// Drives the drivers that the caller has, until the run is over. One alone is driven to its end. None of two may wait for
+/// the other, so they take turns.
 pub(crate) fn drive_here<R: Wait, K: BookName, P: ToolPart>(
     rt: &R,
     book: &SharedBook<K>,
@@ -92,89 +93,52 @@ pub(crate) fn drive_here<R: Wait, K: BookName, P: ToolPart>(
     ensures kept { AreKept (IsSlot P.stands_for P.same K.run) slots.old slots.new }
 {
     let here = slots.iter().filter(|slot| slot.driver.is_err()).count();
-    if here > 1 {
-        drive_in_turn(rt, book, slots);
-    } else {
-        drive_each(rt, book, slots);
-    }
-}
-
-/// Drives each driver that the caller has to its end, one after the other.
-fn drive_each<R: Wait, K: BookName, P: ToolPart>(
-    rt: &R,
-    book: &SharedBook<K>,
-    slots: &mut [Slot<K, P>],
-)
-    ensures as_many { length slots.new ≡ length slots.old }
-    ensures kept { AreKept (IsSlot P.stands_for P.same K.run) slots.old slots.new }
-{
-    for place in 0..slots.len() {
-        drive_slot(rt, book, &mut slots[place]);
-    }
-}
-
-/// Drives the driver, if the caller has it.
-fn drive_slot<R: Wait, K: BookName, P: ToolPart>(
-    rt: &R,
-    book: &SharedBook<K>,
-    slot: &mut Slot<K, P>,
-)
-    ensures { (t : ℕ) (first : P) → IsSlot P.stands_for P.same K.run t first slot.old →
-        IsSlot P.stands_for P.same K.run t first slot.new }
-{
-    if let Err((pass, part)) = &mut slot.driver {
-        drive(rt, book, pass, part);
-    }
-}
-
-/// Visits the drivers that the caller has in turn. None of them goes on while another one's part is called.
-fn drive_in_turn<R: Wait, K: BookName, P: ToolPart>(
-    rt: &R,
-    book: &SharedBook<K>,
-    slots: &mut [Slot<K, P>],
-)
-    ensures as_many { length slots.new ≡ length slots.old }
-    ensures kept { AreKept (IsSlot P.stands_for P.same K.run) slots.old slots.new }
-{
     for _ in rt.forever() {
-        if !visit_all(rt, book, slots) {
+        if !visit_all(rt, book, slots, here) {
             break;
         }
         thread::yield_now();
     }
 }
 
-/// One visit of each driver that the caller has. It answers whether one goes on.
+/// One visit of each driver that the caller has, which are so many. It answers whether one goes on.
 fn visit_all<R: Wait, K: BookName, P: ToolPart>(
     rt: &R,
     book: &SharedBook<K>,
     slots: &mut [Slot<K, P>],
+    here: usize,
 ) -> bool
     ensures as_many { length slots.new ≡ length slots.old }
     ensures kept { AreKept (IsSlot P.stands_for P.same K.run) slots.old slots.new }
 {
     let mut goes_on = false;
     for place in 0..slots.len() {
-        if visit_here(rt, book, &mut slots[place]) != Visited::Over {
+        if visit_here(rt, book, &mut slots[place], here) != Visited::Over {
             goes_on = true;
         }
     }
     goes_on
 }
 
-/// One visit of the driver, if the caller has it.
+/// Visits the driver, if the caller has it: once where it has more, and else until the run is over. None of them goes on
+/// while another one's part is called.
 fn visit_here<R: Wait, K: BookName, P: ToolPart>(
     rt: &R,
     book: &SharedBook<K>,
     slot: &mut Slot<K, P>,
+    here: usize,
 ) -> Visited
     ensures { (t : ℕ) (first : P) → IsSlot P.stands_for P.same K.run t first slot.old →
         IsSlot P.stands_for P.same K.run t first slot.new }
 {
-    match &mut slot.driver {
-        Err((pass, part)) => visit(rt, book, pass, part),
-        Ok(_) => Visited::Over,
+    let Err((pass, part)) = &mut slot.driver else {
+        return Visited::Over;
+    };
+    if here > 1 {
+        return visit(rt, book, pass, part);
     }
+    drive(rt, book, pass, part);
+    Visited::Over
 }
 
 /// Starts the driver of each pass and part but the first, which the caller has.

@@ -2,7 +2,6 @@
 
 ghost use Rattle.tool_api.specs.Handed.{HandedFor, SameHanded, handed-itself, handed-onward};
 
-use crate::guest::Guest;
 use crate::part::{Memory, ToolPart};
 use crate::quiet::Quiet;
 use crate::registrar::Registrar;
@@ -11,7 +10,7 @@ use ompt_calls::{Call, Reply, Snapshot};
 /// A tool, or none. It passes each call to the part that it holds, and stands for what
 /// that part stands for.
 #[derive(Drop)]
-pub enum Handed<G = Guest> {
+pub enum Handed<G> {
     /// A tool.
     Guest(G),
     /// No tool: the part that does nothing.

@@ -19,9 +19,8 @@
 //!
 //! Proved by the contracts of each `impl`, over the definitions of `specs/`:
 //!
-//! - [`Guest`] hands each call on to the [`GuestTool`] in its box, and stands for what that tool stands for. So a call
+//! - [`PartOf`] hands each call on to a [`GuestTool`], and [`GuestOf`] to a [`ToolPart`]. Each stands for what that one stands for. So a call
 //!   that is left out, doubled or answered otherwise isn't proved;
-//! - [`PartOf`] hands each call on to a [`GuestTool`], and [`GuestOf`] to a [`ToolPart`]. Each stands for what that one stands for;
 //! - [`Quiet`] leaves nothing registered, answers 0 to `initialize`, stores nothing, and finds memory in each call: that is
 //!   `QuietFor`. Its `callback` is never an error;
 //! - [`Handed`] stands for what the part that it holds stands for: that is `HandedFor`.
@@ -39,7 +38,6 @@
 //! Tests in `test_calls` register callbacks, and those of `test_top` run tools in boxes. The must-fail edits try wrong bodies.
 #![tactic(auto)]
 
-mod guest;
 mod guest_of;
 mod guest_tool;
 mod handed;
@@ -48,7 +46,6 @@ mod part_of;
 mod quiet;
 mod registrar;
 
-pub use guest::Guest;
 pub use guest_of::GuestOf;
 pub use guest_tool::GuestTool;
 pub use handed::Handed;

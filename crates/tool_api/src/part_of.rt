@@ -7,8 +7,7 @@ use crate::part::{Memory, ToolPart};
 use crate::registrar::Registrar;
 use ompt_calls::{Call, Reply, Snapshot};
 
-/// A tool as a part: `tool_both` joins parts. It hands each call on to the tool, and stands for what the tool stands for. A
-/// [`Guest`](crate::Guest) is the same for a tool in a box.
+/// A tool as a part: `tool_both` joins parts. It hands each call on to the tool, and stands for what the tool stands for.
 #[derive(Drop)]
 pub struct PartOf<T>(pub T);
 

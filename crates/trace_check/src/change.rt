@@ -21,7 +21,7 @@ pub enum Change {
 }
 
 /// What an event with this callback does to the brackets of its thread.
-pub(crate) fn change_of(call: &Call) -> Change
+pub fn change_of(call: &Call) -> Change
     ensures { result ≡ change_of call.now }
 {
     match call {

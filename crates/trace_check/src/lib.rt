@@ -53,7 +53,7 @@ mod told;
 
 pub use bracket::Bracket;
 pub use breach::Breach;
-pub use change::Change;
+pub use change::{Change, change_of};
 pub use checked::Checked;
 pub use checker::Checker;
 pub use laws::migrated_alike;

@@ -14,7 +14,7 @@
 //!   answered for the second version;
 //! - the call returns, as `read_items` does.
 //!
-//! [`line_of_end`] is the line of an end mark, which others write too.
+//! [`line_of_end`] is the line of an end mark, which others write too, and [`push_number`] adds a number to such a line.
 //!
 //! Its memory doesn't grow with the trace: that isn't proved, but plain in the code.
 #![tactic(auto)]
@@ -28,4 +28,4 @@ mod put;
 pub use copied::Copied;
 pub use copy::copy_trace;
 pub use form::Form;
-pub use put::line_of_end;
+pub use put::{line_of_end, push_number};

@@ -110,8 +110,8 @@ pub fn line_of_end(end: EndMark) -> ArrayString<160>
     line
 }
 
-/// Adds a number in decimal.
-fn push_number(line: &mut ArrayString<160>, number: u32)
+/// Adds a number in decimal to a line with room for 40 digits.
+pub fn push_number(line: &mut ArrayString<160>, number: u32)
     requires { array_string_len line.old + 40 ≤ 160 }
     ensures bytes { line.new.bytes ≡ line.old.bytes ++ decimal number }
     ensures few { array_string_len line.new ≤ array_string_len line.old + 40 }

@@ -1,5 +1,5 @@
 -- How a reader goes from field to field: which one comes next behind the fields of an item that has begun, how long it is, and whether its bytes may
--- stand there. That this is so of exactly the traces is a law of the format.
+-- stand there. That this is so of exactly the traces is a law of the format. And when an argument is of its kind, whatever its bytes.
 use Rattle.std.specs.Prelude.{ℕ, ◌≡◌, ◌+◌, ◌++◌, ◌==◌, ◌&&◌, ◌||◌, not, nat_le, nat_lt, if◌then◌else◌, Bool, true, false, List, [], ◌∷◌, drop, length, Option, Some, None}
 use Rattle.std.specs.Int.Bits.{bit_and}
 use Rattle.byteorder.specs.Endian.{big_number}

@@ -30,7 +30,7 @@ word_at place bytes = record { identity = short_at place bytes; value = long_at 
 abbrev pub frame_at : ℕ → List ℕ → Frame
 frame_at place bytes = record { exit = short_at place bytes; enter = short_at (place + 4) bytes }
 
--- what an argument is of a kind, whatever its values
+-- which variant of `Argument` an argument of a kind is
 pub data Shape : Type 0 where
   AsShort : Shape
   AsLong : Shape

@@ -117,7 +117,8 @@ IsCall (MutexAcquire kind hint variant wait_id codeptr) =
 IsCall (MutexAcquired kind wait_id codeptr) = IsAmong mutex_kinds kind × IsShort wait_id × IsLong codeptr
 IsCall (Dispatch region task kind start iterations) = IsWord region × IsWord task × IsLong start × IsDispatched kind iterations
 
--- The same by kinds, as the reader goes by them: those of a callback's arguments, by its number. That both say the same is proved.
+-- The kinds of a callback's arguments, by its number, by which the reader goes. That each argument is of its kind, and a dispatch has its
+-- iterations, exactly where `IsCall` says so is proved.
 abbrev pub kinds_of : ℕ → List Kind
 kinds_of number =
     if number == THREAD_BEGIN then arg.OfThread ∷ arg.Word ∷ []

@@ -16,7 +16,7 @@ pub enum Kind {
     Short,
     /// Any number of 64 bits.
     Long,
-    /// A place in the program.
+    /// A place in the program: any number of 64 bits.
     Place,
     /// A data word.
     Word,

@@ -15,7 +15,7 @@
 //! Proved by the contracts of the functions that are named:
 //!
 //! - [`valid`]: true exactly of the traces;
-//! - [`kinds_of`]: what each argument of a callback has, by the callback's number;
+//! - [`kinds_of`]: the kinds of a callback's arguments, by its number;
 //! - [`write_item`] and [`write_trace`] append what the item or the trace is written as, of every item and every trace, or at a
 //!   write fault a front of it;
 //! - [`Reader::feed`] and [`Reader::end`], for all that was taken before: the items given are those whose last byte was taken,

@@ -2,85 +2,24 @@
 
 ghost use Rattle.std.specs.Prelude.{◌≡◌, ℕ, ◌==◌, [], ◌∷◌, ◌++◌, if◌then◌else◌};
 ghost use Rattle.omp_codes.specs.declared.task_statuses.TheConstants.{SWITCH};
-ghost use Rattle.trace_check.specs.Brackets.{at_endpoint, at_status, change_of};
+ghost use Rattle.trace_check.specs.Brackets.{change_of};
 ghost use Rattle.trace_view.specs.Chrome.{flows_to, happens, own_marks, slice_marks};
 ghost use Rattle.trace_view.specs.Marking.{happening_text, marks_of};
 
 use crate::mark::{Happening, MarkKind, MutexName};
-use omp_codes::endpoints::{BEGIN, END};
 use omp_codes::mutex_kinds::TEST_LOCK;
-use omp_codes::task_statuses::{COMPLETE, SWITCH};
+use omp_codes::task_statuses::SWITCH;
 use ompt_calls::Call;
-use trace_check::Bracket;
+use trace_check::{Change, change_of};
 
 /// The mark of the slice that a call begins or ends.
 pub(crate) fn slice_mark(call: &Call) -> Option<MarkKind>
     ensures { (t : ℕ) → marks_of t result ≡ slice_marks (change_of call.now) }
 {
-    match call {
-        Call::ParallelBegin { region, .. } => {
-            Some(MarkKind::Begins(Bracket::Parallel(region.identity)))
-        }
-        Call::ParallelEnd { region, .. } => {
-            Some(MarkKind::Ends(Bracket::Parallel(region.identity)))
-        }
-        Call::TaskSchedule {
-            prior,
-            status,
-            next,
-        } => at_status(*status, prior.identity, next.identity),
-        Call::ImplicitTask { endpoint, task, .. } => {
-            at_endpoint(*endpoint, Bracket::Implicit(task.identity))
-        }
-        Call::SyncRegionWait {
-            kind,
-            endpoint,
-            task,
-            ..
-        } => at_endpoint(*endpoint, Bracket::Waiting(task.identity, *kind)),
-        Call::Work {
-            kind,
-            endpoint,
-            region,
-            task,
-            count,
-            ..
-        } => at_endpoint(
-            *endpoint,
-            Bracket::Worksharing(region.identity, task.identity, *kind, *count),
-        ),
-        Call::Masked { endpoint, task, .. } => {
-            at_endpoint(*endpoint, Bracket::Masking(task.identity))
-        }
-        Call::SyncRegion {
-            kind,
-            endpoint,
-            task,
-            ..
-        } => at_endpoint(*endpoint, Bracket::Syncing(task.identity, *kind)),
-        _ => None,
-    }
-}
-
-/// The mark of a slice at this endpoint of it.
-fn at_endpoint(endpoint: u32, bracket: Bracket) -> Option<MarkKind>
-    ensures { (t : ℕ) → marks_of t result ≡ slice_marks (at_endpoint endpoint bracket) }
-{
-    match endpoint {
-        BEGIN => Some(MarkKind::Begins(bracket)),
-        END => Some(MarkKind::Ends(bracket)),
-        _ => None,
-    }
-}
-
-/// The mark of the slice of an explicit task, to which a thread goes, or from which it comes back.
-fn at_status(status: u32, prior: u32, next: u32) -> Option<MarkKind>
-    ensures { (t : ℕ) → marks_of t result ≡ slice_marks (at_status status prior next) }
-{
-    match status {
-        SWITCH => Some(MarkKind::Begins(Bracket::Explicit(prior, next))),
-        COMPLETE => Some(MarkKind::Ends(Bracket::Explicit(next, prior))),
-        _ => None,
+    match change_of(call) {
+        Change::Opens(bracket) => Some(MarkKind::Begins(bracket)),
+        Change::Closes(bracket) => Some(MarkKind::Ends(bracket)),
+        Change::Stays => None,
     }
 }
 

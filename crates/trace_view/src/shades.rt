@@ -1,4 +1,4 @@
-//! The shades in which states are drawn.
+//! The shades in which states are drawn. Each function is a table, a row a state or a shade.
 
 ghost use Rattle.std.specs.Prelude.{◌≡◌};
 ghost use Rattle.trace_view.specs.Svg.{colour_of, shade_of, shade_text};

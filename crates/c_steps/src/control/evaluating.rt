@@ -1,4 +1,4 @@
-//! The numbers of expressions.
+//! The numbers of expressions, in the scope of a control.
 
 ghost use Rattle.std.specs.Prelude.{◌≡◌, ◌≤◌, length, drop, IfOk};
 ghost use Rattle.c_model.specs.Cells.{entry_of};

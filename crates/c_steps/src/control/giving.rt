@@ -4,7 +4,7 @@ ghost use Rattle.std.specs.Prelude.{ℕ, ◌≡◌, ◌<◌, ◌+◌, length};
 ghost use Rattle.c_syntax.specs.language.Numbered.{tree_at};
 ghost use Rattle.c_model.specs.declared.question.Answer.TheVariants as of_answer;
 ghost use Rattle.c_model.specs.Answers.{AnswersFirst, AnswersItem, IsChunkAnswer, IsLockAnswer, IsSectionAnswer};
-ghost use Rattle.c_model.specs.AfterEvents as going;
+ghost use Rattle.c_model.specs.AfterEvents as after_events;
 ghost use Rattle.c_steps.specs.ControlView.{moment_at, task_at};
 ghost use Rattle.c_steps.specs.Items.{item_at, loop_at, with_file};
 ghost use Rattle.c_steps.specs.OfProgram.{IsMadeFor};
@@ -37,7 +37,7 @@ impl Control {
         requires asked { AnswersFirst (task_at code.now self.old).todo answer }
         requires spare { 0 < self.old.spare }
         ensures went { moment_at code.now self.new cells.new ≡
-            going.settled_after_answer answer (moment_at code.now self.old cells.old) }
+            after_events.settled_after_answer answer (moment_at code.now self.old cells.old) }
         ensures spare { self.new.spare + 1 ≡ self.old.spare }
         ensures passes { self.new.passes ≡ self.old.passes }
         ensures made { IsMadeFor code.now self.new }
@@ -54,9 +54,9 @@ impl Control {
         requires ready { IsStepping code.now self.old }
         requires item { IsItem code.now item }
         requires answer { AnswersItem (item_at code.now item) answer }
-        ensures held { IsGiven code.now self.old self.new (going.items_answered answer (item_at code.now item)) }
+        ensures held { IsGiven code.now self.old self.new (after_events.items_answered answer (item_at code.now item)) }
         ensures cells { cells.new ≡ record cells.old {
-          cells = going.cells_answered answer (item_at code.now item) cells.old.cells;
+          cells = after_events.cells_answered answer (item_at code.now item) cells.old.cells;
         } }
     {
         match item {
@@ -77,7 +77,7 @@ impl Control {
         requires ready { IsStepping code.now self.old }
         requires shared { IsLoop code.now shared }
         requires chunk { IsChunkAnswer shared.count (of_answer.Chunk chunk) }
-        ensures { IsGiven code.now self.old self.new (going.items_of_chunk (loop_at code.now shared) chunk) }
+        ensures { IsGiven code.now self.old self.new (after_events.items_of_chunk (loop_at code.now shared) chunk) }
     {
         self.step();
         match chunk {
@@ -120,7 +120,7 @@ impl Control {
         requires ready { IsStepping code.now self.old }
         requires node { node < length code.now.trees }
         ensures { IsGiven code.now self.old self.new
-            (going.items_of_section (tree_at code.now.trees node) (with_file code.now names) section) }
+            (after_events.items_of_section (tree_at code.now.trees node) (with_file code.now names) section) }
     {
         match section {
             Some(number) => {
@@ -151,8 +151,8 @@ impl Control {
         requires ready { IsStepping code.now self.old }
         requires node { node < length code.now.trees }
         ensures held { IsGiven code.now self.old self.new
-            (going.items_of_test (tree_at code.now.trees node) id to free) }
-        ensures cells { cells.new ≡ record cells.old { cells = going.cells_of_test to free cells.old.cells } }
+            (after_events.items_of_test (tree_at code.now.trees node) id to free) }
+        ensures cells { cells.new ≡ record cells.old { cells = after_events.cells_of_test to free cells.old.cells } }
     {
         self.step();
         if free {

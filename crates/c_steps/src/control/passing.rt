@@ -4,7 +4,7 @@ ghost use Rattle.std.specs.Prelude.{◌≡◌, ◌<◌, ◌++◌, [], ◌∷◌,
 ghost use Rattle.c_syntax.specs.language.Numbered.{TreeView, tree_at};
 ghost use Rattle.c_model.specs.Clauses.{construct_statement};
 ghost use Rattle.c_model.specs.Copies.{makes_cells};
-ghost use Rattle.c_model.specs.AfterEvents as going;
+ghost use Rattle.c_model.specs.AfterEvents as after_events;
 ghost use Rattle.c_model.specs.Loops.{loop_of};
 ghost use Rattle.c_model.specs.Task.Item.{EndMasked, Start};
 ghost use Rattle.c_steps.specs.declared.item.Item.TheVariants as item;
@@ -34,7 +34,7 @@ impl Control {
         requires event { IsEventOfNext code.now point node (task_at code.now self.old).todo }
         requires passes { 0 < self.old.passes }
         ensures went { task_at code.now self.new ≡
-            going.settled_after_event point executes (task_at code.now self.old) }
+            after_events.settled_after_event point executes (task_at code.now self.old) }
         ensures after { IsAfterEvent self.old self.new }
         ensures made { IsMadeFor code.now self.new }
     {
@@ -50,8 +50,8 @@ impl Control {
         requires item { IsItem code.now item }
         requires event { IsEventOf code.now point node (item_at code.now item) }
         ensures { IsPassed code.now self.old self.new
-            (going.items_after point executes (length (env_at code.now self.old)) (item_at code.now item))
-            (going.names_after point (item_at code.now item) (env_at code.now self.old)) }
+            (after_events.items_after point executes (length (env_at code.now self.old)) (item_at code.now item))
+            (after_events.names_after point (item_at code.now item) (env_at code.now self.old)) }
     {
         match point {
             Point::ParallelBegin { .. } => self.put_instead(code, Some(Item::Forked(node))),
@@ -112,7 +112,7 @@ impl Control {
         requires work { AreWorkNumbers work }
         ensures { IsPassed code.now self.old self.new
             (makes_cells (tree_at code.now.trees node) ++
-            going.work_items work (tree_at code.now.trees node) (length (env_at code.now self.old)) executes)
+            after_events.work_items work (tree_at code.now.trees node) (length (env_at code.now self.old)) executes)
             (env_at code.now self.old) }
     {
         let (first, last) = work_stages(code, node, self.own_names(), work, executes);
@@ -129,7 +129,7 @@ impl Control {
         requires ready { IsPassing code.now self.old }
         requires node { node < length code.now.trees }
         ensures { IsPassed code.now self.old self.new
-            (going.barrier_items (tree_at code.now.trees node))
+            (after_events.barrier_items (tree_at code.now.trees node))
             (names_behind_work code.now item (env_at code.now self.old)) }
     {
         let barrier = barrier_of(code, node);
@@ -149,7 +149,7 @@ impl Control {
         requires item { IsItem code.now item }
         requires node { node < length code.now.trees }
         ensures { IsPassed code.now self.old self.new
-            (going.mutex_items kind (tree_at code.now.trees node) id to)
+            (after_events.mutex_items kind (tree_at code.now.trees node) id to)
             (names_behind_asking item (env_at code.now self.old)) }
     {
         match item {
@@ -164,7 +164,7 @@ impl Control {
         requires ready { IsPassing code.now self.old }
         requires node { node < length code.now.trees }
         ensures task { task_at code.now self.new ≡
-            replaced code.now (going.mutex_items kind (tree_at code.now.trees node) id to) self.old }
+            replaced code.now (after_events.mutex_items kind (tree_at code.now.trees node) id to) self.old }
         ensures after { IsAfterEvent self.old self.new }
         ensures frames { AreFrames code.now self.new.frames }
     {
@@ -188,7 +188,7 @@ impl Control {
         requires entry { IsEntry entry }
         requires node { node < length code.now.trees }
         ensures task { task_at code.now self.new ≡
-            record (replaced code.now (going.mutex_items kind (tree_at code.now.trees node) id to) self.old)
+            record (replaced code.now (after_events.mutex_items kind (tree_at code.now.trees node) id to) self.old)
             { env = env_at code.now self.old ++ entry ∷ [] } }
         ensures after { IsAfterEvent self.old self.new }
         ensures frames { AreFrames code.now self.new.frames }
@@ -219,7 +219,7 @@ impl Control {
 /// The event of a barrier or taskwait behind another one, if there is one.
 fn next_stage(node: u32, kind: SyncKind, stage: SyncStage) -> Option<Item>
     ensures stage { (program : TreeView) →
-        items_if program result ≡ going.next_stage (tree_at program.trees node) kind stage }
+        items_if program result ≡ after_events.next_stage (tree_at program.trees node) kind stage }
     ensures item { (program : TreeView) → node < length program.trees → IfSome result (IsItem program) }
 {
     let stage = match stage {
@@ -234,7 +234,7 @@ fn next_stage(node: u32, kind: SyncKind, stage: SyncStage) -> Option<Item>
 /// The barrier behind a worksharing construct, if it has one.
 fn barrier_of(code: &Code, node: u32) -> Option<Item>
     requires { node < length code.now.trees }
-    ensures barrier { items_if code.now result ≡ going.barrier_items (tree_at code.now.trees node) }
+    ensures barrier { items_if code.now result ≡ after_events.barrier_items (tree_at code.now.trees node) }
     ensures item { IfSome result (IsItem code.now) }
 {
     if has_nowait(code, node) {
@@ -272,7 +272,7 @@ fn work_stages(
 ) -> (Option<Item>, Item)
     requires node { node < length code.now.trees }
     requires work { AreWorkNumbers work }
-    ensures stages { stages_at code.now result ≡ going.work_items work (tree_at code.now.trees node)
+    ensures stages { stages_at code.now result ≡ after_events.work_items work (tree_at code.now.trees node)
         (with_file code.now names) executes }
     ensures first { IfSome result.0 (IsItem code.now) }
     ensures last { IsItem code.now result.1 }
@@ -295,7 +295,7 @@ fn work_stages(
 /// The stages of a `single`: its statement, where the task executes it, and the end of its work.
 fn single_stages(code: &Code, node: u32, names: usize, executes: bool) -> (Option<Item>, Item)
     requires node { node < length code.now.trees }
-    ensures stages { stages_at code.now result ≡ going.single_items (tree_at code.now.trees node)
+    ensures stages { stages_at code.now result ≡ after_events.single_items (tree_at code.now.trees node)
         (with_file code.now names) executes }
     ensures first { IfSome result.0 (IsItem code.now) }
     ensures last { IsItem code.now result.1 }

@@ -1,4 +1,5 @@
-//! The rules of the grammar: by which steps a sort of text is read.
+//! The rules of the grammar: by which steps a sort of text is read. Each file here is a table: a function a sort, a row a word that may be
+//! next, with the steps of the rule. Rows that are alike are different rules of the grammar.
 
 ghost use Rattle.std.specs.Prelude.{◌≡◌};
 ghost use Rattle.std.specs.Option.{option_copied};

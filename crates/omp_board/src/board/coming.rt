@@ -14,11 +14,11 @@ ghost use Rattle.omp_model.specs.declared.event.Arrival.TheVariants.{CodeEvent, 
 ghost use Rattle.omp_model.specs.declared.event.Event.TheVariants as event;
 ghost use Rattle.omp_model.specs.Changes.{with_masked_skipped, gone_to, with_code};
 ghost use Rattle.omp_model.specs.Gates.{arrival};
-ghost use Rattle.omp_model.specs.EventEffects as going;
+ghost use Rattle.omp_model.specs.EventEffects as effects;
 ghost use Rattle.omp_model.specs.MadeWorld.{IsMadeWorld};
 ghost use Rattle.omp_model.specs.Members.{code_of, current, moment_of, view_of};
 ghost use Rattle.omp_board.specs.Answering.{IsSettled};
-ghost use Rattle.omp_board.specs.Board.{HasEvent, HasStep, IsGoing, IsGoingBeside, IsGoingTo};
+ghost use Rattle.omp_board.specs.Board.{HasEvent, HasStep, IsGoing, IsGoOfRuntime, IsGoingTo};
 ghost use Rattle.omp_board.specs.Events.{HasComeTo, HasGo, HasPassing, work_event};
 ghost use Rattle.omp_board.specs.Tasks.{IsNamedIn, IsStill};
 
@@ -55,7 +55,7 @@ impl Board {
         requires meets { arrival self.old.world thread ≡ RuntimeEvent event }
         requires made { IsMadeWorld self.old.world }
         requires room { HasEvent self.old.room self.old.world thread }
-        ensures going { IsGoingBeside self.old.world thread event result self.new.world }
+        ensures going { IsGoOfRuntime self.old.world thread event result self.new.world }
         ensures program { self.new.program ≡ self.old.program }
     {
         if let Some(limit) = self.limit_met(thread, event) {
@@ -137,7 +137,7 @@ impl Board {
     /// The event at this point, with its numbers: one line for each.
     #[inline(always)]
     fn event_at(&self, thread: u8, point: Point) -> Event
-        ensures { result ≡ going.event_of_point self.now.world thread point }
+        ensures { result ≡ effects.event_of_point self.now.world thread point }
     {
         match point {
             Point::ParallelBegin { codeptr, requested } => Event::ParallelBegin {
@@ -195,7 +195,7 @@ impl Board {
 
     /// Whether the thread is the first of its team at this begin of a worksharing construct. Of a `single` it executes the statement then.
     fn executes(&self, thread: u8, point: Point) -> bool
-        ensures { result ≡ going.executes_point self.now.world thread point }
+        ensures { result ≡ effects.executes_point self.now.world thread point }
     {
         match point {
             Point::WorkBegin { codeptr, work } => {

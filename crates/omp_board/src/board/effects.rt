@@ -15,7 +15,7 @@ ghost use Rattle.omp_model.specs.EventEffects.{effect_of, fault_of, stack_fault}
 ghost use Rattle.omp_model.specs.declared.limits.TheConstants as limits;
 ghost use Rattle.omp_model.specs.State.{region_at, task_at, thread_at};
 ghost use Rattle.omp_model.specs.Changes as changes;
-ghost use Rattle.omp_model.specs.EventEffects as going;
+ghost use Rattle.omp_model.specs.EventEffects as effects;
 ghost use Rattle.omp_model.specs.MadeWorld.{IsMadeWorld};
 ghost use Rattle.omp_model.specs.Members.{code_of, current, is_explicit_task, moment_of};
 ghost use Rattle.omp_board.specs.Board.{run_of};
@@ -42,8 +42,8 @@ impl Board {
         requires creates { MayCreate self.old.program self.old.world thread point }
         requires room { HasGo self.old.room self.old.world thread }
         ensures effect { let W = self.old.world in IsEffect
-            (going.fault_of_point W thread (code_of W thread) point)
-            (going.effect_of_point (run_of self.old.program) W thread (moment_of W thread) point)
+            (effects.fault_of_point W thread (code_of W thread) point)
+            (effects.effect_of_point (run_of self.old.program) W thread (moment_of W thread) point)
             result W self.new.world }
         ensures kept { KeepsPassing self.old self.new }
     {
@@ -74,8 +74,8 @@ impl Board {
     fn fork(&mut self, thread: u8, requested: i32) -> Result<(), Halt>
         requires room { HasGo self.old.room self.old.world thread }
         ensures effect { let W = self.old.world in IsEffect
-            (going.trap_if (int_lt requested (pos 1)) limits.TEAM_SIZE)
-            (going.after_fork W thread (nat_abs requested))
+            (effects.trap_if (int_lt requested (pos 1)) limits.TEAM_SIZE)
+            (effects.after_fork W thread (nat_abs requested))
             result W self.new.world }
         ensures kept { KeepsPassing self.old self.new }
     {
@@ -93,7 +93,7 @@ impl Board {
     /// How many members a region has for which so many were asked.
     fn team_size(&self, thread: u8, requested: u32) -> u8
         requires { 1 ≤ requested }
-        ensures size { result ≡ going.team_size self.now.world thread requested }
+        ensures size { result ≡ effects.team_size self.now.world thread requested }
         ensures some { 1 ≤ result }
         ensures few { result ≤ 16 }
     {
@@ -119,8 +119,8 @@ impl Board {
         requires creator { IsCreator self.old.program self.old.world thread }
         requires room { HasGo self.old.room self.old.world thread }
         ensures effect { let W = self.old.world in IsEffect
-            (going.task_fault W)
-            (going.after_creation (run_of self.old.program) W thread (moment_of W thread) undeferred)
+            (effects.task_fault W)
+            (effects.after_creation (run_of self.old.program) W thread (moment_of W thread) undeferred)
             result W self.new.world }
         ensures kept { KeepsPassing self.old self.new }
     {
@@ -139,8 +139,8 @@ impl Board {
         requires chunk { HasChunk what }
         requires room { HasGo self.old.room self.old.world thread }
         ensures effect { let W = self.old.world in IsEffect
-            (going.meeting_fault W thread (code_of W thread) what)
-            (going.after_meeting_at W thread what)
+            (effects.meeting_fault W thread (code_of W thread) what)
+            (effects.after_meeting_at W thread what)
             result W self.new.world }
         ensures kept { KeepsPassing self.old self.new }
     {
@@ -155,7 +155,7 @@ impl Board {
 
     /// The trap that the thread has where it meets this next.
     fn meeting_fault(&self, thread: u8, what: Meeting) -> Option<Halt>
-        ensures { result ≡ going.meeting_fault self.now.world thread (code_of self.now.world thread) what }
+        ensures { result ≡ effects.meeting_fault self.now.world thread (code_of self.now.world thread) what }
     {
         let task = self.current(thread);
         if self.is_explicit(task) {
@@ -170,7 +170,7 @@ impl Board {
     /// The statement of a `masked` begins.
     fn begin_masked(&self, thread: u8) -> Result<(), Halt>
         ensures { let W = self.now.world in IsEffect
-            (going.masked_fault W thread (code_of W thread))
+            (effects.masked_fault W thread (code_of W thread))
             W
             result W W }
     {
@@ -192,8 +192,8 @@ impl Board {
     ) -> Result<(), Halt>
         requires room { HasGo self.old.room self.old.world thread }
         ensures effect { let W = self.old.world in IsEffect
-            (going.sync_fault W thread (code_of W thread) codeptr kind stage)
-            (going.after_sync W thread codeptr kind stage)
+            (effects.sync_fault W thread (code_of W thread) codeptr kind stage)
+            (effects.after_sync W thread codeptr kind stage)
             result W self.new.world }
         ensures kept { KeepsPassing self.old self.new }
     {
@@ -213,7 +213,7 @@ impl Board {
     /// A lock or critical is asked for.
     fn ask_for(&self, thread: u8, wait_id: u32, kind: MutexKind) -> Result<(), Halt>
         ensures { let W = self.now.world in IsEffect
-            (going.acquire_fault W (code_of W thread) kind wait_id)
+            (effects.acquire_fault W (code_of W thread) kind wait_id)
             W
             result W W }
     {
@@ -232,7 +232,7 @@ impl Board {
     /// A lock or critical that is to be acquired is initialised.
     pub(super) fn may_acquire(&self, wait_id: u32) -> Result<(), Halt>
         ensures { let W = self.now.world in IsEffect
-            (going.lock_fault (answers.answer_to_may_take W.locks.locks wait_id))
+            (effects.lock_fault (answers.answer_to_may_take W.locks.locks wait_id))
             W
             result W W }
     {
@@ -245,7 +245,7 @@ impl Board {
     /// It comes to be owned.
     fn acquire(&mut self, thread: u8, wait_id: u32) -> Result<(), Halt>
         ensures effect { let W = self.old.world in IsEffect
-            (going.lock_fault (answers.answer_to_may_take W.locks.locks wait_id))
+            (effects.lock_fault (answers.answer_to_may_take W.locks.locks wait_id))
             (changes.owned_by W wait_id (Some (current W thread)))
             result W self.new.world }
         ensures kept { KeepsPassing self.old self.new }
@@ -259,7 +259,7 @@ impl Board {
     /// It is given back.
     fn release(&mut self, thread: u8, wait_id: u32) -> Result<(), Halt>
         ensures effect { let W = self.old.world in IsEffect
-            (going.lock_fault (answers.answer_to_give W.locks.locks wait_id (current W thread)))
+            (effects.lock_fault (answers.answer_to_give W.locks.locks wait_id (current W thread)))
             (changes.owned_by W wait_id None)
             result W self.new.world }
         ensures kept { KeepsPassing self.old self.new }
@@ -272,7 +272,7 @@ impl Board {
     fn init_lock(&mut self, wait_id: u32) -> Result<(), Halt>
         requires { 0 < self.old.room.locks }
         ensures effect { let W = self.old.world in IsEffect
-            (going.lock_fault (answers.answer_to_init W.locks.locks wait_id))
+            (effects.lock_fault (answers.answer_to_init W.locks.locks wait_id))
             (changes.with_initialised_lock W wait_id)
             result W self.new.world }
         ensures kept { KeepsPassing self.old self.new }
@@ -283,7 +283,7 @@ impl Board {
     /// A lock is destroyed.
     fn destroy_lock(&mut self, wait_id: u32) -> Result<(), Halt>
         ensures effect { let W = self.old.world in IsEffect
-            (going.lock_fault (answers.answer_to_destroy W.locks.locks wait_id))
+            (effects.lock_fault (answers.answer_to_destroy W.locks.locks wait_id))
             (changes.without_lock W wait_id)
             result W self.new.world }
         ensures kept { KeepsPassing self.old self.new }
@@ -397,7 +397,7 @@ impl Board {
 
 /// The trap with this number, where the rule is broken.
 fn trap_if(is_broken: bool, number: u8) -> Option<Halt>
-    ensures { result ≡ going.trap_if is_broken number }
+    ensures { result ≡ effects.trap_if is_broken number }
 {
     if is_broken {
         Some(Halt::Trap(number))

@@ -2,7 +2,7 @@
 
 ghost use Rattle.std.specs.Prelude.{◌≡◌};
 ghost use Rattle.team_parts.specs.Meetings.{HasChunk};
-ghost use Rattle.omp_model.specs.EventEffects as going;
+ghost use Rattle.omp_model.specs.EventEffects as effects;
 
 use c_model::{Schedule, SyncKind, Work};
 use omp_codes::sync_kinds;
@@ -10,7 +10,7 @@ use team_parts::{Meeting, Schedule as Dealt};
 
 /// How a loop is dealt. A chunk that goes to whoever asks has at least one iteration.
 fn dealt_by(schedule: Schedule) -> Dealt
-    ensures { result ≡ going.dealt_by schedule }
+    ensures { result ≡ effects.dealt_by schedule }
 {
     match schedule {
         Schedule::Static(size) => Dealt::Static(size),
@@ -21,7 +21,7 @@ fn dealt_by(schedule: Schedule) -> Dealt
 
 /// What is met at the begin of a worksharing construct at this place.
 pub(super) fn work_met(codeptr: u64, work: Work) -> Meeting
-    ensures met { result ≡ going.work_met codeptr work }
+    ensures met { result ≡ effects.work_met codeptr work }
     ensures chunk { HasChunk result }
 {
     match work {
@@ -44,7 +44,7 @@ pub(super) fn work_met(codeptr: u64, work: Work) -> Meeting
 
 /// What is met at a barrier at this place.
 pub(super) fn barrier_met(codeptr: u64, kind: SyncKind) -> Meeting
-    ensures met { result ≡ going.barrier_met codeptr kind }
+    ensures met { result ≡ effects.barrier_met codeptr kind }
     ensures chunk { HasChunk result }
 {
     Meeting::Barrier {
@@ -55,7 +55,7 @@ pub(super) fn barrier_met(codeptr: u64, kind: SyncKind) -> Meeting
 
 /// The number of a kind of synchronisation (`ompt_sync_region_t`, OpenMP 5.2, 19.4.4.14).
 pub fn sync_number(kind: SyncKind) -> u32
-    ensures { result ≡ going.sync_number kind }
+    ensures { result ≡ effects.sync_number kind }
 {
     match kind {
         SyncKind::Barrier => sync_kinds::BARRIER_EXPLICIT,

@@ -85,19 +85,19 @@ impl Board {
     {
         if self.is_outermost(region) {
             let size = self.regions.size(region);
-            summon(&mut self.threads, region, size as usize);
+            invite(&mut self.threads, region, size as usize);
         } else if let Some(thread) = self.threads.get_mut(thread as usize) {
-            thread.summon(region);
+            thread.invite(region);
         }
     }
 }
 
 /// The first threads, so many, are to join the region.
-fn summon(threads: &mut [Thread], region: u32, size: usize)
+fn invite(threads: &mut [Thread], region: u32, size: usize)
     ensures { threads.new ≡ with_invitations region size threads.old }
 {
     let size = size.min(threads.len());
     for thread in &mut threads[..size] {
-        thread.summon(region);
+        thread.invite(region);
     }
 }

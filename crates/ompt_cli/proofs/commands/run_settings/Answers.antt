@@ -1,9 +1,6 @@
 use Rattle.std.proofs.Common.{◌∙◌, Err, ap, refl, sym}
-use Rattle.ompt_cli.specs.declared.end.End.{End}
-use Rattle.ompt_cli.specs.declared.end.End.TheVariants.{Memory, ReadFault}
-use Rattle.ompt_cli.proofs.Carrying.{end_carried, run_carried}
-use Rattle.ompt_cli.proofs.Reading.{ends-memory}
-use Rattle.ompt_cli.proofs.Telling.{err-end}
+use Rattle.ompt_cli.specs.declared.end.End.{End, TheVariants.Memory, TheVariants.ReadFault}
+use Rattle.ompt_cli.proofs.{Carrying.end_carried, Carrying.run_carried, Reading.ends-memory, Telling.err-end}
 use Rattle.ompt_cli.proofs.commands.run_settings.Goals as goal
 
 pub returns-in-Ok-run_command-clause-carried : goal.returns-in-Ok-run_command-clause-carried

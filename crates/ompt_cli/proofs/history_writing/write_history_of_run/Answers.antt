@@ -1,9 +1,7 @@
 use Rattle.std.proofs.Common.{ℕ, ◌≤◌, ◌∙◌, List, ap, length, subst, sym}
+use Rattle.ompt_cli.specs.Names.{HistoryFile, FitsFile}
 use Rattle.run_trace.proofs.Counted.{few-entries}
-use Rattle.history_file.specs.declared.file.HistoryFile.{HistoryFile}
-use Rattle.history_file.specs.Fields.{fields_of, spelling}
-use Rattle.history_file.specs.Fitting.{FitsFile}
-use Rattle.history_file.proofs.OfRuns.{threads_named}
+use Rattle.history_file.{specs.Fields.fields_of, specs.Fields.spelling, proofs.OfRuns.threads_named}
 use Rattle.ompt_cli.specs.Commands.{HasWritten, run_of}
 use Rattle.ompt_cli.proofs.Filing.{ended-as, file-is, filed, filed-text, found-by}
 use Rattle.ompt_cli.proofs.Telling.{few-threads, some-threads}

@@ -1,14 +1,9 @@
 use Rattle.std.proofs.Common.{ℕ, ◌∙◌, List, ap, subst, sym}
-use Rattle.omp_model.specs.Records.{records_of}
-use Rattle.run_trace.specs.TraceOf.{trace_with}
+use Rattle.ompt_cli.specs.Names.{records_of, trace_with, fields_of, spelling, AreShared, Recording}
 use Rattle.run_trace.proofs.Traces.{traces_of_runs}
-use Rattle.trace_format.specs.Fields.{fields_of, spelling}
-use Rattle.tool_report.specs.Order.{AreShared}
-use Rattle.ompt_words.specs.declared.settings.Command.TheVariants.{Record as Recording}
 use Rattle.ompt_cli.specs.Commands.{HasGuests, HasWritten, run_of, unless_memory}
-use Rattle.ompt_cli.proofs.Keeping.{kept-shared}
-use Rattle.ompt_cli.proofs.Filing.{ends-found, shared-few}
 use Rattle.ompt_cli.proofs.Telling.{command-is, few-threads, guests-kept, some-threads, written-as}
+use Rattle.ompt_cli.proofs.{Keeping.kept-shared, Filing.ends-found, Filing.shared-few}
 use Rattle.ompt_cli.proofs.recording.record.Goals as goal
 
 pub write_trace_of_run-end-requires : goal.write_trace_of_run-end-requires

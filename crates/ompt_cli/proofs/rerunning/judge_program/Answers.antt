@@ -1,8 +1,6 @@
 use Rattle.std.proofs.Common.{ap, ◌∙◌, ◌++◌, List, ℕ, length}
 use Rattle.std.proofs.lemmas.Result.{IfOk-weaker}
-use Rattle.omp_model.specs.Heard.{heard}
-use Rattle.history_file.specs.Certificates.{run_of_file}
-use Rattle.trace_copy.specs.Written.{line_of_end as line_of_mark}
+use Rattle.ompt_cli.specs.Names.{heard, run_of_file, line_of_mark}
 use Rattle.ompt_cli.specs.Histories.{heard_text, lines_of_calls}
 use Rattle.ompt_cli.proofs.Written.{lines-heard, written-rerun}
 use Rattle.ompt_cli.proofs.rerunning.judge_program.Goals as goal

@@ -1,16 +1,10 @@
 use Rattle.std.proofs.Common.{ℕ, ◌≡◌, ◌≢◌, ◌∙◌, Option, Some, None, [], ◌++◌, length, take, drop, true, refl, sym, ap, subst, arith}
+use Rattle.team_run.specs.Names.{Run, after, cause_of, serial, BookView, Record, initialized}
 use Rattle.omp_model.specs.declared.cause.Cause.TheVariants as causes
-use Rattle.omp_model.specs.State.{Run, State}
-use Rattle.omp_model.specs.Cause.{cause_in, cause_of}
-use Rattle.omp_model.specs.Serial.{serial}
-use Rattle.step_book.specs.BookView.{BookView, state_of}
-use Rattle.team_run.specs.Program.{run_of_program}
-use Rattle.omp_model.proofs.Recording.{HasRun-after, HasRun-whole}
-use Rattle.omp_model.proofs.SerialLaws.{serial-whole}
+use Rattle.omp_model.proofs.{Recording.HasRun-whole, SerialLaws.serial-whole}
 use Rattle.team_run.specs.Standing.{HearsSilent, StandsAt, StopsAt}
-use Rattle.tool_api.specs.Record.{Record, initialized}
 use Rattle.team_run.specs.Serving.{ChangesFirst, RunsParts, ServesTo, finished_by}
-use Rattle.team_run.specs.Unheard.{is_of}
+use Rattle.team_run.specs.{Program.run_of_program, Unheard.is_of}
 use Rattle.team_run.proofs.Serving.{changes-vector, runs-parts, same-around, served-all}
 use Rattle.team_run.proofs.Visiting.{stands-start, unheard-none}
 use Rattle.team_run.proofs.serial.run_serial.Goals as goal
@@ -39,9 +33,9 @@ returns-clause-ran g c =
     let begun : book.run ≡ run = ap (λ (book : BookView). book.run) c.in_ok-book.ensures in
     let serves : ServesTo stands_for book.run started [] ended.parts.items ended.book.history =
     subst (λ history. ServesTo stands_for book.run started history ended.parts.items ended.book.history) (ap (λ (book : BookView). book.history) c.in_ok-book.ensures) c.finish-cause.ensures.serves in
-    let stands : cause ≢ causes.Memory → StandsAt book.run (state_of ended.book) ended.next ended.book.history =
-    λ found. subst (λ (run : Run). StandsAt run (state_of ended.book) ended.next ended.book.history) c.finish-cause.ensures.run (c.finish-cause.ensures.stands found) in
-    let heard : cause ≢ causes.Memory → serves.unheard ≡ None = λ found. unheard-none book.run _ _ _ serves.unheard (stands found) serves.is_unheard in
+    let stands : cause ≢ causes.Memory → StandsAt book.run ended.next ended.book.history =
+    λ found. subst (λ (run : Run). StandsAt run ended.next ended.book.history) c.finish-cause.ensures.run (c.finish-cause.ensures.stands found) in
+    let heard : cause ≢ causes.Memory → serves.unheard ≡ None = λ found. unheard-none book.run _ _ serves.unheard (stands found) serves.is_unheard in
     let finished = c.finalize_first.new.parts in
     let later = take ended.parts.len (finished ++ drop (length finished) ended.parts.items) in
     let last : ChangesFirst stands_for Same (finished_by start.answer) ended.parts.items later =
@@ -51,8 +45,9 @@ returns-clause-ran g c =
     (ap (λ (run : Run). run.mask) begun ∙ c.mask_of-mask.ensures.mask) (omega (arith, c.requires.some, c.requires.parts)) first
     (is_of serves.unheard) (record { one = serves.unheard; is_unheard = serves.is_unheard; all_heard = heard; unheard_is = λ k. refl }) (λ found k below. ap (λ (unheard : Option ℕ). is_of unheard k) (heard found))
     serves.serves.as_many (served-all stands_for book.run started ended.parts.items ended.book.history serves.unheard serves.serves) last in
-    let stops : StopsAt run (state_of ended.book) c.close-history.result.history =
-    subst (λ history. StopsAt run (state_of ended.book) history) (sym c.close-history.ensures.history) (subst (λ (run : Run). StopsAt run (state_of ended.book) ended.book.history) begun c.finish-cause.ensures.stops) in
+    let stops : StopsAt run c.close-history.result.history =
+    subst (λ history. StopsAt run history) (sym c.close-history.ensures.history) (subst (λ (run : Run). StopsAt run ended.book.history) begun c.finish-cause.ensures.stops) in
+    let over : ended.book.run ≡ run = c.finish-cause.ensures.run ∙ begun in
     record {
       legal = stops.serial.legal;
       parts = subst (λ history. RunsParts stands_for true run cause history c.args.parts.items later) (sym c.close-history.ensures.history)
@@ -64,9 +59,10 @@ returns-clause-ran g c =
       own = stops.own;
       cause = λ found.
           subst (λ history. cause_of run history ≡ Some cause) (sym c.close-history.ensures.history)
-          (subst (λ (run : Run). cause_of run ended.book.history ≡ Some cause) (c.finish-cause.ensures.run ∙ begun)
-          (ap (cause_in ended.book.run) (HasRun-after (c.finish-cause.ensures.stands found).has_run) ∙ c.finish-cause.ensures.cause found));
-      text = c.close-history.ensures.text ∙ ap (λ (S : State). S.world.store.text) (sym stops.reached);
+          (subst (λ (run : Run). cause_of run ended.book.history ≡ Some cause) over (c.finish-cause.ensures.cause found));
+      text =
+          c.close-history.ensures.text ∙ ap (λ (run : Run). (after run ended.book.history).world.store.text) over
+          ∙ ap (λ history. (after run history).world.store.text) (sym c.close-history.ensures.history);
     }
 
 pub returns-clause-whole : goal.returns-clause-whole

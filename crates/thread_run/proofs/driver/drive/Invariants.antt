@@ -1,6 +1,5 @@
 use Rattle.std.proofs.Common.{◌≡◌, IfOk}
-use Rattle.step_book.specs.Owing.{OwesStep}
-use Rattle.step_book.specs.Sharing.{KeepsStep, book_after}
+use Rattle.team_run.specs.Names.{OwesStep, KeepsStep, book_after}
 use Rattle.thread_run.specs.Driving.{HasCome, IsDriven}
 use Rattle.thread_run.proofs.driver.drive.Given as goal
 

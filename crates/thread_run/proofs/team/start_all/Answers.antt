@@ -1,6 +1,5 @@
 use Rattle.std.proofs.Common.{◌≡◌, rules, ◌+◌, ◌++◌, ◌∷◌, [], ◌∙◌, ℕ, drop, length, length-append, sym, ap, List, arith}
-use Rattle.thread_run.specs.declared.team.Slot.{Slot}
-use Rattle.thread_run.specs.Drivers.{IsDriver, IsSlot}
+use Rattle.thread_run.specs.{declared.team.Slot.Slot, Drivers.IsDriver, Drivers.IsSlot}
 use Rattle.thread_run.proofs.Drivers.{driver-next, for-more, rest-next, whole-next}
 use Rattle.thread_run.proofs.team.start_all.Goals.{then-place-eq0, else-place-eq0}
 use Rattle.thread_run.proofs.team.start_all.Goals as goal

@@ -1,11 +1,7 @@
 use Rattle.std.proofs.Common.{◌≡◌, ◌≢◌, ◌++◌, ◌∙◌, false, length, take, drop, Option, Some, IfSome, sym, subst, arith}
-use Rattle.omp_model.specs.declared.cause.Cause.{Cause}
+use Rattle.team_run.specs.Names.{Cause, Run, cause_of, Record, initialized}
 use Rattle.omp_model.specs.declared.cause.Cause.TheVariants as causes
-use Rattle.omp_model.specs.State.{Run}
-use Rattle.omp_model.specs.Cause.{cause_of}
-use Rattle.team_run.specs.Program.{run_of_program}
-use Rattle.tool_api.specs.Record.{Record, initialized}
-use Rattle.team_run.specs.Serving.{ChangesFirst, finished_by}
+use Rattle.team_run.specs.{Program.run_of_program, Serving.ChangesFirst, Serving.finished_by}
 use Rattle.team_run.proofs.Serving.{changes-vector, runs-parts, same-around}
 use Rattle.thread_run.specs.Drivers.{HaveServed}
 use Rattle.thread_run.proofs.threads.run_threads.Goals as goal

@@ -1,14 +1,9 @@
 use Rattle.std.proofs.Common.{ℕ, ◌≡◌, ◌<◌, ◌∙◌, IfSome, None, Option, ap, sym, subst, arith}
-use Rattle.omp_model.specs.declared.limits.TheConstants.{TURN_LIMIT}
 use Rattle.std.specs.Option.{option_map}
-use Rattle.omp_model.specs.Gates.{arrival}
-use Rattle.omp_model.specs.State.{Run}
+use Rattle.team_run.specs.Names.{TURN_LIMIT, arrival, Run, state_of}
 use Rattle.omp_machine.specs.declared.ready.Ready.{Ready}
-use Rattle.omp_model.proofs.Turns.{turn-goes}
-use Rattle.omp_model.proofs.Recording.{first_enabled-enabled}
-use Rattle.step_book.specs.BookView.{state_of}
-use Rattle.team_run.specs.Standing.{StandsAt, StopsAt}
-use Rattle.team_run.specs.Serving.{Serves}
+use Rattle.omp_model.proofs.{Turns.turn-goes, Recording.first_enabled-enabled}
+use Rattle.team_run.specs.{Standing.StandsAt, Standing.StopsAt, Serving.Serves}
 use Rattle.team_run.proofs.Serving.{serves-then, same-then}
 use Rattle.team_run.proofs.Visiting.{caused, stops-here, serves-to, serves-all}
 use Rattle.team_run.proofs.serial_run.SerialRun.finish.Goals as goal
@@ -30,7 +25,7 @@ loop-ready-preserved g c =
     let after = c.visit.new.self in
     let kept = c.loop-ready.invariant in
     let served : Serves stands_for before.book.run before.parts.items before.book.history None after.parts.items after.book.history =
-    serves-all _ _ _ _ _ (subst (λ (run : Run). StandsAt run (state_of after.book) after.next after.book.history) c.in-Ok.ensures.run c.in-Ok.ensures.stands) stands_for _ _ c.in-Ok.ensures.serves in
+    serves-all _ _ _ _ (subst (λ (run : Run). StandsAt run after.next after.book.history) c.in-Ok.ensures.run c.in-Ok.ensures.stands) stands_for _ _ c.in-Ok.ensures.serves in
     let of_run = subst (λ (run : Run). Serves stands_for run before.parts.items before.book.history None after.parts.items after.book.history) kept.run served in
     record {
       run = c.in-Ok.ensures.run ∙ kept.run;
@@ -42,15 +37,15 @@ loop-ready-preserved g c =
 pub returns-clause-serves : goal.returns-clause-serves
 returns-clause-serves g c =
     let kept = c.loop-ready.invariant in
-    serves-to _ _ _ _ _ (subst (λ (run : Run). StandsAt run (state_of c.loop-ready.self.book) c.loop-ready.self.next c.loop-ready.self.book.history) kept.run kept.stands) g.P.ToolPart.stands_for _ _ kept.serves
+    serves-to _ _ _ _ (subst (λ (run : Run). StandsAt run c.loop-ready.self.next c.loop-ready.self.book.history) kept.run kept.stands) g.P.ToolPart.stands_for _ _ kept.serves
 
 pub unreachable-requires : goal.unreachable-requires
 unreachable-requires g c =
-    caused _ _ _ _ c.loop-ready.invariant.stands (sym c.first_ready.ensures.thread ∙ ap thread_of c.in_default.is) (sym c.cause.ensures ∙ c.in-None.is)
+    caused _ _ _ c.loop-ready.invariant.stands (sym c.first_ready.ensures.thread ∙ ap thread_of c.in_default.is) (sym c.cause.ensures ∙ c.in-None.is)
 
 pub returns-clause-stops : goal.returns-clause-stops
 returns-clause-stops g c =
-    subst (λ (run : Run). StopsAt run (state_of c.loop-ready.self.book) c.loop-ready.self.book.history) c.loop-ready.invariant.run (stops-here _ _ _ _ c.loop-ready.invariant.stands)
+    subst (λ (run : Run). StopsAt run c.loop-ready.self.book.history) c.loop-ready.invariant.run (stops-here _ _ _ c.loop-ready.invariant.stands)
 
 pub visit-requires-clause-turn : goal.visit-requires-clause-turn
 visit-requires-clause-turn g c κs within = sym c.first_ready.ensures.thread ∙ ap thread_of c.in-Some.is

@@ -1,11 +1,10 @@
 use Rattle.std.proofs.Common.{◌≡◌, ◌∙◌, refl, sym, ap, subst, arith, inl, inr, ◌∷◌, []}
-use Rattle.omp_model.specs.Storing.{go_at}
-use Rattle.omp_model.proofs.Recording.{first_enabled-enabled, first_enabled-below}
+use Rattle.omp_model.{specs.Storing.go_at, proofs.Recording.first_enabled-enabled, proofs.Recording.first_enabled-below}
 use Rattle.step_book.specs.BookView.{BookView, state_of, with_entries}
 use Rattle.step_book.proofs.Telling.{told-step, quiet-step, ended-step, not_yet-step}
 use Rattle.team_run.specs.Serving.{Answers}
 use Rattle.team_run.proofs.Serving.{same-itself}
-use Rattle.team_run.proofs.Visiting.{QuietVisit, Visited, alone-visit, stops-here, stops-said, untold-visit, visited-said, serves-said, serves-to, from_either, from_ok}
+use Rattle.team_run.proofs.Visiting.{QuietVisit, Visited, alone-visit, stops-here, stops-inside, untold-visit, visited-said, serves-said, serves-to, from_either, from_ok}
 use Rattle.team_run.proofs.serial_run.SerialRun.visit.Goals as goal
 
 pub go_ready-requires-clause-thread : goal.go_ready-requires-clause-thread
@@ -15,7 +14,7 @@ pub go_ready-requires-clause-enabled : goal.go_ready-requires-clause-enabled
 go_ready-requires-clause-enabled g c = first_enabled-enabled c.args.self.now.book.run _ _ _ c.requires.turn
 
 pub returns-in_err-step-clause-stops : goal.returns-in_err-step-clause-stops
-returns-in_err-step-clause-stops g c = rw c.in_err-step.ensures.memory (stops-here _ _ _ _ c.requires.stands)
+returns-in_err-step-clause-stops g c = rw c.in_err-step.ensures.memory (stops-here _ _ _ c.requires.stands)
 
 pub overflow_add-self : goal.overflow_add-self
 overflow_add-self g c =
@@ -41,12 +40,12 @@ returns-in-Told g c =
     record {
       run = same;
       serves = from_either c.serve.result c.serve.ensures.answers c.serve.ensures.memory
-          (λ answered. serves-to _ _ _ _ _ (visited answered).stands stands_for _ _ (visited answered).serves)
+          (λ answered. serves-to _ _ _ _ (visited answered).stands stands_for _ _ (visited answered).serves)
           (λ kept. rw (kept.0, whole) (serves-said book.run _ book.history t c.requires.stands c.requires.turn _ _ told.is_told stands_for parts _ kept.1));
       same = c.serve.ensures.same;
       stops = from_either c.serve.result c.serve.ensures.answers c.serve.ensures.memory
-          (λ answered. rw same (stops-here _ _ _ _ (visited answered).stands))
-          (λ kept. rw (kept.0, whole) (stops-said book.run _ book.history t c.requires.stands c.requires.turn _ _ told.is_told));
+          (λ answered. stops-here _ _ _ (visited answered).stands)
+          (λ kept. rw (kept.0, whole) (stops-inside book.run _ book.history t c.requires.stands c.requires.turn told.is_told.event told.is_told.happens));
       stands = from_ok c.serve.result c.serve.ensures.answers (λ answered. rw (same, c.serve.ensures.next) (visited answered).stands);
       turns = from_ok c.serve.result c.serve.ensures.answers (λ answered. rw same (visited answered).turns);
     }
@@ -66,9 +65,9 @@ returns-in-Quiet g c =
     ] in
     record {
       run = rw quiet.whole refl;
-      serves = rw quiet.whole (serves-to _ _ _ _ _ quiet.visited.stands stands_for _ _ quiet.visited.serves);
+      serves = rw quiet.whole (serves-to _ _ _ _ quiet.visited.stands stands_for _ _ quiet.visited.serves);
       same = same-itself g.P.ToolPart.same (g.met.P.ToolPart g.world.𝓛 g.world.𝓜 g.world.𝓡 ((λ s x. x), (λ x. x), (λ x. x), λ x. x)).same_itself parts;
-      stops = rw quiet.whole (stops-here _ _ _ _ quiet.visited.stands);
+      stops = rw quiet.whole (stops-here _ _ _ quiet.visited.stands);
       stands = rw quiet.whole quiet.visited.stands;
       turns = rw quiet.whole quiet.visited.turns;
     }

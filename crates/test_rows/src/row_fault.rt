@@ -1,13 +1,12 @@
 //! Why a line of a table can't be read.
 
-use hex::FromHexError;
-use std::alloc::{AllocError, AllocFailed};
+use std::alloc::AllocError;
 use std::num::ParseIntError;
 use thiserror::Error;
 
-/// Why a line of a table can't be read.
+/// Why a line of a table of rows can't be read, or a row not be tried.
 #[derive(Clone, Copy, Debug, Error)]
-pub(crate) enum RowFault {
+pub enum RowFault {
     /// A line of a row before the first `row`.
     #[error("no row begins above")]
     OutsideRow,
@@ -23,34 +22,16 @@ pub(crate) enum RowFault {
     /// A word that is no text.
     #[error("no word")]
     NoWord,
+    /// A callback that isn't known, or has other numbers.
+    #[error("no such event")]
+    NoSuchEvent,
     /// No memory was left.
     #[error("memory")]
-    Memory,
-}
-
-impl From<AllocError> for RowFault {
-    fn from(_error: AllocError) -> RowFault {
-        RowFault::Memory
-    }
-}
-
-impl<T: Drop> From<AllocFailed<T>> for RowFault {
-    fn from(_error: AllocFailed<T>) -> RowFault {
-        RowFault::Memory
-    }
+    Memory(#[from(alloc)] AllocError),
 }
 
 impl From<ParseIntError> for RowFault {
     fn from(_error: ParseIntError) -> RowFault {
         RowFault::NoNumber
-    }
-}
-
-impl From<FromHexError> for RowFault {
-    fn from(error: FromHexError) -> RowFault {
-        match error {
-            FromHexError::OutOfMemory => RowFault::Memory,
-            _ => RowFault::NoBytes,
-        }
     }
 }
