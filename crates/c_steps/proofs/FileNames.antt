@@ -1,5 +1,5 @@
 -- The names and the cells of a file, from a part of it on.
-use Rattle.std.proofs.Common.{◌≡◌, List, [], ◌∷◌, ◌++◌, inl, inr, refl, sym, ap, ◌∙◌}
+use Rattle.std.proofs.Common.{◌≡◌, cond, List, [], ◌∷◌, ◌++◌, inl, inr, refl, sym, ap, ◌∙◌}
 use Rattle.std.proofs.lemmas.Bool.{cases_Bool}
 use Rattle.std.proofs.lemmas.List.{append-nil}
 use Rattle.c_syntax.specs.language.Tree.{Tree, kind_of}
@@ -27,3 +27,12 @@ pub declared_more : (program : TreeView) (bound : Bound) (part : Tree) (parts : 
 declared_more program bound part parts =
     ap (with_declarators program bound) (flat_more part parts)
     ∙ with_declarators-append program bound (flat_declarations (variables_among (part ∷ []))) (flat_declarations (variables_among parts))
+
+-- what one part declares
+pub declared_first : (program : TreeView) (bound : Bound) (part : Tree) → declared_by program bound (part ∷ []) ≡ cond (is_of_variables (kind_of part)) (with_declarators program bound (declarators_in (kind_of part) part)) bound
+unfolding with_declarators flat_declarations variables_among
+declared_first program bound part =
+    elim (cases_Bool (is_of_variables (kind_of part))) [
+      | inl variables ↦ rw variables (ap (with_declarators program bound) (append-nil (declarators_in (kind_of part) part)))
+      | inr other ↦ rw other refl
+    ]

@@ -11,7 +11,7 @@ use Rattle.c_syntax.specs.language.Numbered.{TreeView, children_at, tree_at}
 use Rattle.c_model.specs.Clauses.{clauses_among, listed_among}
 use Rattle.c_model.specs.Parts.{declarators_in, flat_declarations, trees_in}
 use Rattle.c_model.specs.Task.{is_declarator}
-use Rattle.c_model.specs.Width.{inner_names, most_inside, own_names}
+use Rattle.c_model.specs.Width.{function_names, inner_names, most_inside, most_of_functions, own_names}
 use Rattle.c_steps.specs.Nodes.{IsPart, part_at}
 use Rattle.c_steps.specs.Widths.{declarators_among, most_among, most_of_steps, names_of_step, number_at}
 
@@ -67,3 +67,20 @@ count_by-append trees more = sum_by-append (λ (part : Tree). cond (is_declarato
 pub declarators_behind : (part : Tree) (parts : List Tree) → declarators_among (flat_declarations (part ∷ parts)) ≡ declarators_among (declarators_in (kind_of part) part) + declarators_among (flat_declarations parts)
 unfolding flat_declarations
 declarators_behind part parts = count_by-append (declarators_in (kind_of part) part) (flat_declarations parts)
+
+pub declarators_none : declarators_among (flat_declarations []) ≡ 0
+unfolding flat_declarations
+declarators_none = refl
+
+pub ruleset declarators_cases = (declarators_behind, declarators_none)
+
+-- the most names of functions, and those of the functions behind one
+pub functions_behind : (program : TreeView) (function : Tree) (functions : List Tree) → most_of_functions program (function ∷ functions) ≡ max (function_names program function) (most_of_functions program functions)
+unfolding most_of_functions
+functions_behind program function functions = refl
+
+pub functions_none : (program : TreeView) → most_of_functions program [] ≡ 0
+unfolding most_of_functions
+functions_none program = refl
+
+pub ruleset functions_cases = (number_at_is, functions_behind, functions_none)

@@ -71,7 +71,7 @@ impl FileNames {
     }
 
     /// A part of the file declares its variables or locks, if it is a declaration of those.
-    #[tactic(auto, unfolding(c_model::specs::Program::variables_among, c_model::specs::Parts::flat_declarations, c_model::specs::Cells::with_declarators))]
+    #[tactic(auto, using(crate::proofs::FileNames::declared_first))]
     fn declare_part(&mut self, program: &Program, part: u32) -> Result<(), AllocError>
         requires { part < length program.now.trees }
         ensures { OnOk result (self.new ≡ declared_by program.now self.old (tree_at program.now.trees part ∷ [])) }

@@ -106,7 +106,7 @@ fn declared_names(tree: &Tree, node: u32) -> Result<usize, AllocError>
 }
 
 /// How many declarators a block has.
-#[tactic(auto, using(crate::proofs::InnerNames::declarators_behind), unfolding(c_check::specs::Tasks::from_place, c_model::specs::Parts::flat_declarations))]
+#[tactic(auto, using(crate::proofs::InnerNames::declarators_cases), unfolding(c_check::specs::Tasks::from_place))]
 fn declarator_count(tree: &Tree, block: u32) -> Result<usize, AllocError>
     requires { block < length tree.now.trees }
     ensures { IfOk result (λ count.
@@ -157,7 +157,7 @@ fn count_of(counts: bool) -> usize
 }
 
 /// The most names that a function may have beside those of the file.
-#[tactic(auto, using(crate::proofs::InnerNames::number_at_is), unfolding(c_check::specs::Tasks::from_place, c_model::specs::Width::most_of_functions))]
+#[tactic(auto, using(crate::proofs::InnerNames::functions_cases), unfolding(c_check::specs::Tasks::from_place))]
 pub(crate) fn most_of_functions(program: &Program, inner: &[usize]) -> Result<usize, AllocError>
     requires { inner.now ≡ map (widths.inner_names program.now) program.now.trees }
     ensures { IfOk result (λ most. most ≡ widths.most_of_functions program.now (parts (root_tree program.now))) }
