@@ -1,4 +1,4 @@
-//! The call of an event. It is a table: one function an event, with the arguments of its call.
+//! The call of an event. It is a table: a function an event, but for the end of a thread, with the arguments of its call.
 
 ghost use Rattle.std.specs.Prelude.{◌≡◌};
 ghost use Rattle.c_model.specs.declared.point.MutexKind.TheVariants as mutex;

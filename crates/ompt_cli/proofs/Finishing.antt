@@ -1,5 +1,5 @@
 -- How a run has ended: whole exactly at Done or Returned, and with no thread inside a callback. And that the trace of a run of a program that a text spells is nested.
-use Rattle.std.proofs.Common.{◌≡◌, ◌≢◌, ◌<◌, ◌≤◌, ℕ, zero, suc, ℤ, pos, negsuc, ◌&&◌, Bool, true, false, if◌then◌else◌, List, [], ◌∷◌, length, Option, Some, None, is_none, slice_index_or, refl, sym, ap, subst, ◌∙◌, ◌↔◌, arith}
+use Rattle.std.proofs.Common.{◌≡◌, ◌≢◌, ◌<◌, ◌≤◌, ℕ, zero, suc, ℤ, pos, ◌&&◌, Bool, true, false, if◌then◌else◌, List, [], ◌∷◌, length, Option, Some, None, is_none, slice_index_or, refl, sym, ap, subst, ◌∙◌, ◌↔◌, arith}
 use Rattle.std.specs.List.{list_all}
 use Rattle.ompt_cli.specs.Names.{PROFILE_MASK, Record, Cause, Callback, Halt, Entry, Run, State, cause_of, threads_over}
 use Rattle.ompt_cli.specs.Names.{main_returned, Legal, after, trace_of}

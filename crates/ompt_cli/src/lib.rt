@@ -29,7 +29,9 @@
 //! [`top_alone`] does the same for all words that don't ask for a run by threads, without the handles for threads and for waiting. By
 //! [`each_text_is_judged`], a law, each text runs or is refused, for one reason.
 //!
-//! [`own_words`] gathers the words for a program's `main`. No clause says which they are, since none can.
+//! [`own_words`] gathers the words for a program's `main`. No clause says which they are, since none can. [`End::exit`] is the end of a
+//! program that comes to no command, and [`Top::has_printed`] tells a `main` whether more may stand behind what was printed: no clause
+//! says when, it is to be read.
 //!
 //! Want of memory is free: no clause says when it comes, only what stands after it. That the calls succeed with ample
 //! memory isn't proved: the rows of `test_commands` show it.

@@ -85,7 +85,7 @@ pub struct Top {
 }
 
 impl Top {
-    /// Whether the command has printed what a program printed, so that more may stand behind it.
+    /// Whether the command is `run`, and has written what the program printed, so that more may stand behind it.
     pub fn has_printed(&self) -> bool {
         match &self.ran {
             Some(report) => match report.command {
@@ -98,8 +98,8 @@ impl Top {
     }
 }
 
-/// How a command ended, what it reports of its run, if there was one, the text that it was to show, if there was one, and the command that has read a
-/// trace, if one has.
+/// How a command ended, what it reports of its run, if there was one, the text that it was to show, if there was one, and the
+/// command that has read a trace, if one has.
 #[derive(Drop)]
 pub(crate) struct Outcome {
     pub end: End,

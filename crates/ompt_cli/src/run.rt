@@ -85,7 +85,8 @@ fn serve<X: Runner>(runner: &X, job: Job, guests: Guests) -> Result<Served, Allo
     Ok(Served { report, text })
 }
 
-/// Runs the job, and writes what the program printed, and then how many calls of each callback there were. Guest t is the part of thread t beside a profile.
+/// Runs the job, and writes what the program printed, and then how many calls of each callback there were. Guest t is the part of
+/// thread t beside a profile.
 pub(crate) fn run_profiled<X: Runner, O: Sink>(
     runner: &X,
     job: Job,

@@ -2,8 +2,8 @@
 use Rattle.std.proofs.Common.{◌≡◌, ℕ, ℤ, zero, suc, ◌+◌, ◌<◌, ◌≤◌, Bool, true, false, List, [], ◌∷◌, ◌++◌, length, length-append, replicate, slice_set, slice_index_or, Option, Some, None, IsSome, is_none, refl, sym, ap, subst, ◌∙◌, arith, append-nil, append_assoc, Result, Ok, Err, OnOk, OnErr}
 use Rattle.std.specs.List.{list_all}
 use Rattle.std.proofs.lemmas.{Bool.true≢false, Bool.and_from, Bool.and_parts, List.set-set}
-use Rattle.team_run.specs.Names.{Call, Snapshot, Item, is_registered, Reply, Stored, stores_of, Entry, Callback, Event}
-use Rattle.team_run.specs.Names.{Outcome, Run, State, first, pending_at, call_of, callback_of, snap_of, turn, called}
+use Rattle.team_run.specs.Names.{Call, Snapshot, Item, Reply, Stored, stores_of, Entry, Callback, Event}
+use Rattle.team_run.specs.Names.{Outcome, Run, State, first, pending_at, call_of, snap_of, turn, called}
 use Rattle.team_run.specs.Names.{after, put_from, back_from, back, heard, first_enabled, inside_after, StoresNothing}
 use Rattle.team_run.specs.Names.{go_at, event_reply, none_pending, cause_of, BookView, state_of, with_entries}
 use Rattle.team_run.specs.Names.{turn_visit, Record}

@@ -2,7 +2,7 @@
 pub use Rattle.omp_model.specs.Legal.{Legal, after, after_from, back, back_from, entered, put_from}
 pub use Rattle.omp_model.specs.Serial.{Serial, StoresNothing, first_enabled, inside_after, serial}
 pub use Rattle.omp_model.specs.State.{Run, State, first, pending_at}
-pub use Rattle.omp_model.specs.{Calls.call_of, Calls.callback_of, Cause.cause_in, Cause.cause_of, Cause.none_pending, Gates.arrival}
+pub use Rattle.omp_model.specs.{Calls.call_of, Calls.callback_of, Cause.cause_of, Cause.none_pending, Gates.arrival}
 pub use Rattle.omp_model.specs.{Heard.heard, Heard.heard_of, Snapshots.snap_of, Storing.event_reply, Storing.go_at, Turn.called, Turn.turn}
 pub use Rattle.omp_model.specs.{declared.cause.Cause.Cause, declared.event.Callback.Callback, declared.event.Event.Event}
 pub use Rattle.omp_model.specs.{declared.event.Outcome.Outcome, declared.history.Entry.Entry, declared.limits.TheConstants.TURN_LIMIT}
