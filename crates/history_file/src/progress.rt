@@ -16,7 +16,7 @@ use crate::file::{HistoryFile, THREAD_LIMIT};
 use crate::verdict::{HeardCall, HeardCalls, Verdict};
 use crate::waiting::{Waiting, waits};
 use c_check::Program;
-use omp_machine::{Machine, Memory, Went};
+use omp_machine::{Limits, Machine, Memory, Went};
 use omp_model::{Entry, What};
 use ompt_calls::{Call, Target};
 use std::alloc::Global;
@@ -42,7 +42,11 @@ impl Progress {
         ensures run { IfOk result (λ progress. progress.machine.run ≡ run_of_file program file.now) }
         ensures at { IfOk result (IsAt []) }
     {
-        let machine = Machine::new(alloc, program, file.mask, file.threads, file.steps)?;
+        let limits = Limits {
+            threads: file.threads,
+            steps: file.steps,
+        };
+        let machine = Machine::new(alloc, program, file.mask, limits)?;
         Ok(Progress {
             machine,
             waiting: [None; THREAD_LIMIT as usize],

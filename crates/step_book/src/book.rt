@@ -19,7 +19,7 @@ use crate::closed::Closed;
 use crate::entries::Entries;
 use crate::step::Step;
 use c_check::Program;
-use omp_machine::{Machine, Memory, Ready, Went};
+use omp_machine::{Limits, Machine, Memory, Ready, Went};
 use omp_model::{Cause, Entry, What};
 use ompt_calls::{Reply, Snapshot, Store};
 use std::alloc::Global;
@@ -61,26 +61,16 @@ impl Model for Book {
 
 impl Book {
     /// The book of a run before its first entry: the program with the callbacks of the mask registered (bit n for number n),
-    /// so many threads and so many silent steps.
-    pub fn start(
-        alloc: Global,
-        program: Program,
-        mask: u64,
-        threads: u8,
-        steps: u32,
-    ) -> Result<Book, Memory>
-        requires some { 1 ≤ threads }
-        requires few { threads ≤ 16 }
-        requires steps { 1 ≤ steps }
-        requires bounded { steps ≤ 30000000 }
+    /// and so many threads and silent steps.
+    pub fn start(alloc: Global, program: Program, mask: u64, limits: Limits) -> Result<Book, Memory>
         ensures { IfOk result (λ book. book ≡ (let run : Run = record {
           program = program;
           mask = mask;
-          threads = threads;
-          steps = steps;
+          threads = limits.threads;
+          steps = limits.steps;
         } in record { run = run; history = []; ended = false })) }
     {
-        let machine = Machine::new(alloc, program, mask, threads, steps)?;
+        let machine = Machine::new(alloc, program, mask, limits)?;
         Ok(Book {
             machine,
             entries: Entries::new(alloc),
