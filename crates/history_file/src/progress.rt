@@ -18,7 +18,7 @@ use crate::waiting::{Waiting, waits};
 use c_check::Program;
 use omp_machine::{Limits, Machine, Memory, Went};
 use omp_model::{Entry, What};
-use ompt_calls::{Call, Target};
+use ompt_calls::{Call, Sequence, Target};
 use std::alloc::Global;
 use std::mem;
 
@@ -199,7 +199,7 @@ impl Progress {
         requires few { length file.now.history ≤ ENTRY_LIMIT }
         ensures { IfOk result (IsVerdict self.old.machine.run file.now) }
     {
-        if self.take_all(file.history.entries())? {
+        if self.take_all(file.history.as_slice())? {
             Ok(self.verdict(alloc, file))
         } else {
             Ok(Verdict::Illegal(self.seq))
@@ -237,6 +237,6 @@ impl Progress {
     {
         let waiting = &self.waiting;
         self.calls.retain(|call| !waits(waiting, call));
-        HeardCalls(mem::replace(&mut self.calls, Vec::new(alloc)))
+        Sequence(mem::replace(&mut self.calls, Vec::new(alloc)))
     }
 }

@@ -3,6 +3,7 @@
 ghost use Rattle.std.specs.Prelude.{◌≡◌, ◌≤◌, ◌<◌, ◌+◌, ◌++◌, ◌∷◌, [], ◌==◌, length, OnOk, OnErr};
 
 use omp_model::{Entry, History};
+use ompt_calls::Sequence;
 use std::alloc::{AllocError, Global};
 use std::marker::Model;
 
@@ -76,6 +77,6 @@ impl Entries {
     pub fn into_history(self) -> History
         ensures { result ≡ self.entries }
     {
-        History(self.entries)
+        Sequence(self.entries)
     }
 }

@@ -65,7 +65,7 @@ fn passes_in_turn(rt: HostRuntime) -> Result<(), Fail> {
     let blank = Blank::new(rt.alloc(), program, 1 << PARALLEL_BEGIN, limits)?;
     let closed = closed_in_turn::<HostRuntime, Brand>(&rt, rt.alloc(), blank)?;
     assert!(rt; closed.cause.is_none());
-    are_in_turn(&rt, closed.history.entries());
+    are_in_turn(&rt, closed.history.as_slice());
     Ok(())
 }
 

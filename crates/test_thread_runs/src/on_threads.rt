@@ -106,7 +106,7 @@ fn goes_through(
     machine: &mut Machine,
     ran: &Ran<Lister>,
 ) -> Result<(), Fail> {
-    let told = replay(rt, alloc, machine, ran.history.entries())?;
+    let told = replay(rt, alloc, machine, ran.history.as_slice())?;
     are_done(rt, ran, machine);
     have_heard(rt, &ran.parts, &told);
     Ok(())

@@ -5,8 +5,8 @@
 
 use omp_codes::{PROFILE, PROFILE_MASK, endpoints};
 use ompt_calls::{
-    Call, Frame, RegionLevel, RegionLevels, Reply, Snapshot, Store, TaskLevel, TaskLevels, Word,
-    WordAt, is_registered,
+    Call, Frame, RegionLevel, Reply, Sequence, Snapshot, Store, TaskLevel, Word, WordAt,
+    is_registered,
 };
 use std::alloc::{AllocError, Global};
 use tool_api::{GuestTool, Memory, Registrar};
@@ -326,8 +326,8 @@ fn inside(alloc: Global) -> Result<Snapshot, Memory> {
         thread: ONE,
         state: 0x001,
         wait_id: 0,
-        tasks: TaskLevels(Vec::from_array(alloc, [MEMBER, INITIAL])?),
-        regions: RegionLevels(Vec::from_array(alloc, [region_of(STORED), region_of(ONE)])?),
+        tasks: Sequence(Vec::from_array(alloc, [MEMBER, INITIAL])?),
+        regions: Sequence(Vec::from_array(alloc, [region_of(STORED), region_of(ONE)])?),
         fresh: None,
     })
 }
