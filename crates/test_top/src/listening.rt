@@ -9,7 +9,7 @@ use ompt_calls::{
     is_registered,
 };
 use std::alloc::{AllocError, Global};
-use tool_api::{GuestTool, Memory, Registrar};
+use tool_api::{GuestTool, Memory, Registrar, Response};
 
 /// From this position on a call is a question, whether it was heard at the position that is so much less.
 const QUESTIONS: u32 = 1_000_000;
@@ -109,13 +109,7 @@ impl Listening {
     }
 
     /// Keeps a call, or answers a question.
-    fn hear(
-        &mut self,
-        seq: u32,
-        thread: u8,
-        call: &Call,
-        snapshot: &Snapshot,
-    ) -> Result<Reply, Memory> {
+    fn hear(&mut self, seq: u32, thread: u8, call: &Call, snapshot: &Snapshot) -> Response {
         if seq >= QUESTIONS {
             return Ok(reply_of(self.answer_to(seq, thread, call)));
         }
@@ -183,13 +177,7 @@ impl GuestTool for Listening {
         self.habits.answer
     }
 
-    fn callback(
-        &mut self,
-        seq: u32,
-        thread: u8,
-        call: &Call,
-        snapshot: &Snapshot,
-    ) -> Result<Reply, Memory> {
+    fn callback(&mut self, seq: u32, thread: u8, call: &Call, snapshot: &Snapshot) -> Response {
         self.hear(seq, thread, call, snapshot)
     }
 
