@@ -9,7 +9,7 @@ use crate::board::Board;
 use crate::frames::frame_of;
 use omp_codes::task_flags::{EXPLICIT, EXPLICIT_UNDEFERRED, IMPLICIT, INITIAL};
 use omp_model::{Event, INITIAL_TASK, STACK_LIMIT};
-use ompt_calls::{RegionLevel, RegionLevels, TaskLevel, TaskLevels, Word};
+use ompt_calls::{RegionLevel, RegionLevels, Sequence, TaskLevel, TaskLevels, Word};
 use std::alloc::{AllocError, Global};
 use std::marker::Model;
 use task_pool::TaskKind;
@@ -49,8 +49,8 @@ impl Levels {
 
     /// The room of a snapshot's levels for those of the next one, where it is room for as many.
     pub fn again(tasks: TaskLevels, regions: RegionLevels) -> Option<Levels> {
-        let TaskLevels(mut tasks) = tasks;
-        let RegionLevels(mut regions) = regions;
+        let Sequence(mut tasks) = tasks;
+        let Sequence(mut regions) = regions;
         tasks.clear();
         regions.clear();
         if tasks.capacity() >= LEVEL_LIMIT && regions.capacity() >= LEVEL_LIMIT {
@@ -72,7 +72,7 @@ impl Levels {
         } = self;
         push_tasks(&mut tasks, board, thread, event);
         push_regions(&mut regions, board, &tasks);
-        (TaskLevels(tasks), RegionLevels(regions))
+        (Sequence(tasks), Sequence(regions))
     }
 }
 

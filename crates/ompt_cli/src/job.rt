@@ -4,6 +4,7 @@ ghost use Rattle.std.specs.Prelude.{◌≡◌, ◌≤◌, IfOk, length};
 
 use c_check::Program;
 use history_file::FileText;
+use ompt_calls::Sequence;
 use ompt_words::Settings;
 use std::alloc::{AllocError, Global};
 
@@ -37,6 +38,6 @@ impl Job {
     {
         let mut text = Vec::new(alloc);
         text.extend_from_slice(self.loaded.text.as_slice())?;
-        Ok(FileText(text))
+        Ok(Sequence(text))
     }
 }

@@ -73,7 +73,7 @@ fn begun_run<P: ToolPart>(ran: Ran<P>) -> Result<Ran<P>, AllocError>
     ensures run { IfOk result (λ begun. begun ≡ ran) }
     ensures begun { IfOk result (λ begun. begun.cause ≡ Cause.Memory → begun.history ≢ []) }
 {
-    if ran.cause == Cause::Memory && ran.history.entries().is_empty() {
+    if ran.cause == Cause::Memory && ran.history.as_slice().is_empty() {
         return Err(AllocError);
     }
     Ok(ran)
