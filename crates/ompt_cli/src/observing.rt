@@ -11,7 +11,7 @@ use ompt_words::Settings;
 use std::alloc::{AllocError, Global};
 use std::sync::Wait;
 use std::thread::Threads;
-use team_run::{Ran, run_serial};
+use team_run::{Limits, Ran, run_serial};
 use thread_run::run_threads;
 use tool_api::ToolPart;
 
@@ -40,8 +40,11 @@ pub(crate) fn observe_alone<P: ToolPart>(
 {
     let Job { loaded, settings } = job;
     let program = ProgramTree::of(&loaded);
-    let (threads, steps) = (settings.threads, settings.steps);
-    let ran = run_serial(alloc, loaded.program, threads, steps, parts)?;
+    let limits = Limits {
+        threads: settings.threads,
+        steps: settings.steps,
+    };
+    let ran = run_serial(alloc, loaded.program, limits, parts)?;
     Ok(with_report(settings, program, ran, guests))
 }
 
@@ -62,8 +65,11 @@ pub(crate) fn observe<R: Threads + Wait + Sync, P: ToolPart>(
     }
     let Job { loaded, settings } = job;
     let program = ProgramTree::of(&loaded);
-    let (threads, steps) = (settings.threads, settings.steps);
-    let ran = run_threads(rt, alloc, loaded.program, threads, steps, parts)?;
+    let limits = Limits {
+        threads: settings.threads,
+        steps: settings.steps,
+    };
+    let ran = run_threads(rt, alloc, loaded.program, limits, parts)?;
     let begun = begun_run(ran)?;
     Ok(with_report(settings, program, begun, guests))
 }

@@ -6,6 +6,7 @@ ghost use Rattle.team_run.specs.Program.{IsRan, run_of};
 
 use crate::team::{Slot, Stays, drive_here, finish_all, start_all};
 use c_check::Program;
+use omp_machine::Limits;
 use omp_model::Cause;
 use std::alloc::Global;
 use std::marker::Brand;
@@ -30,22 +31,17 @@ pub fn run_threads<R: Threads + Wait + Sync, P: ToolPart>(
     rt: &R,
     alloc: Global,
     program: Program,
-    threads: u8,
-    steps: u32,
+    limits: Limits,
     parts: Vec<P>,
 ) -> Result<Ran<P>, Memory>
-    requires some { 1 ≤ threads }
-    requires few { threads ≤ 16 }
-    requires steps { 1 ≤ steps }
-    requires bounded { steps ≤ 30000000 }
-    requires parts { length parts.items ≡ threads }
+    requires { length parts.items ≡ limits.threads }
     ensures ran { IfOk result (λ ran.
-        IsRan P.stands_for P.same false (run_of program threads steps ran) parts.items ran) }
+        IsRan P.stands_for P.same false (run_of program limits.threads limits.steps ran) parts.items ran) }
 {
     let mut parts = parts;
     let start = initialize_first(&mut parts);
     let mask = mask_of(start);
-    let blank = Blank::new(alloc, program, mask, threads, steps)?;
+    let blank = Blank::new(alloc, program, mask, limits)?;
     let (closed, mut parts) = run_team::<R, Brand, P>(rt, alloc, blank, parts)?;
     finalize_first(start, &mut parts);
     let Closed {

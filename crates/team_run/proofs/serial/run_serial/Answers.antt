@@ -11,11 +11,11 @@ use Rattle.team_run.proofs.serial.run_serial.Goals as goal
 
 pub finish-cause-requires-clause-stands : goal.finish-cause-requires-clause-stands
 finish-cause-requires-clause-stands g c κs within =
-    rw c.in_ok-book.ensures (stands-start (run_of_program c.args.program c.mask_of-mask.result c.args.threads c.args.steps) c.requires.some c.requires.few)
+    rw c.in_ok-book.ensures (stands-start (run_of_program c.args.program c.mask_of-mask.result c.args.limits.threads c.args.limits.steps) c.args.limits.some_threads c.args.limits.few_threads)
 
 pub finish-cause-requires-clause-parts : goal.finish-cause-requires-clause-parts
 finish-cause-requires-clause-parts g c κs within =
-    (changes-vector g.P.ToolPart.stands_for g.P.ToolPart.same _ c.args.parts.items c.deref_mut.result.now c.initialize_first-start.new.parts c.args.parts.len c.deref_mut.ensures.value (sym c.args.parts.ok.0) c.initialize_first-start.ensures.first).as_many ∙ c.requires.parts ∙ sym (ap (λ (book : BookView). book.run.threads) c.in_ok-book.ensures)
+    (changes-vector g.P.ToolPart.stands_for g.P.ToolPart.same _ c.args.parts.items c.deref_mut.result.now c.initialize_first-start.new.parts c.args.parts.len c.deref_mut.ensures.value (sym c.args.parts.ok.0) c.initialize_first-start.ensures.first).as_many ∙ c.requires ∙ sym (ap (λ (book : BookView). book.run.threads) c.in_ok-book.ensures)
 
 pub returns-clause-ran : goal.returns-clause-ran
 returns-clause-ran g c =
@@ -29,7 +29,7 @@ returns-clause-ran g c =
     let book : BookView = c.in_ok-book.book in
     let ended = c.finish-cause.new.self in
     let cause = c.finish-cause.result in
-    let run : Run = run_of_program c.args.program c.mask_of-mask.result c.args.threads c.args.steps in
+    let run : Run = run_of_program c.args.program c.mask_of-mask.result c.args.limits.threads c.args.limits.steps in
     let begun : book.run ≡ run = ap (λ (book : BookView). book.run) c.in_ok-book.ensures in
     let serves : ServesTo stands_for book.run started [] ended.parts.items ended.book.history =
     subst (λ history. ServesTo stands_for book.run started history ended.parts.items ended.book.history) (ap (λ (book : BookView). book.history) c.in_ok-book.ensures) c.finish-cause.ensures.serves in
@@ -42,7 +42,7 @@ returns-clause-ran g c =
     changes-vector stands_for Same _ ended.parts.items c.deref_mut-2.result.now finished ended.parts.len c.deref_mut-2.ensures.value (sym ended.parts.ok.0) c.finalize_first.ensures in
     let parts : RunsParts stands_for true book.run cause ended.book.history c.args.parts.items later =
     runs-parts stands_for Same true book.run cause ended.book.history c.args.parts.items started ended.parts.items later start.answer start.registered
-    (ap (λ (run : Run). run.mask) begun ∙ c.mask_of-mask.ensures.mask) (omega (arith, c.requires.some, c.requires.parts)) first
+    (ap (λ (run : Run). run.mask) begun ∙ c.mask_of-mask.ensures.mask) (omega (arith, c.args.limits.some_threads, c.requires)) first
     (is_of serves.unheard) (record { one = serves.unheard; is_unheard = serves.is_unheard; all_heard = heard; unheard_is = λ k. refl }) (λ found k below. ap (λ (unheard : Option ℕ). is_of unheard k) (heard found))
     serves.serves.as_many (served-all stands_for book.run started ended.parts.items ended.book.history serves.unheard serves.serves) last in
     let stops : StopsAt run c.close-history.result.history =
@@ -67,7 +67,7 @@ returns-clause-ran g c =
 
 pub returns-clause-whole : goal.returns-clause-whole
 returns-clause-whole g c = λ found silent.
-    let same : c.finish-cause.new.self.book.run ≡ run_of_program c.args.program c.mask_of-mask.result c.args.threads c.args.steps = c.finish-cause.ensures.run ∙ ap (λ (book : BookView). book.run) c.in_ok-book.ensures in
+    let same : c.finish-cause.new.self.book.run ≡ run_of_program c.args.program c.mask_of-mask.result c.args.limits.threads c.args.limits.steps = c.finish-cause.ensures.run ∙ ap (λ (book : BookView). book.run) c.in_ok-book.ensures in
     let stands = c.finish-cause.ensures.stands found in
-    let quiet : HearsSilent (run_of_program c.args.program c.mask_of-mask.result c.args.threads c.args.steps) c.finish-cause.new.self.book.history = rw (← c.close-history.ensures.history) silent in
+    let quiet : HearsSilent (run_of_program c.args.program c.mask_of-mask.result c.args.limits.threads c.args.limits.steps) c.finish-cause.new.self.book.history = rw (← c.close-history.ensures.history) silent in
     rw c.close-history.ensures.history (subst (λ (run : Run). c.finish-cause.new.self.book.history ≡ serial run) same (sym (serial-whole c.finish-cause.new.self.book.run c.finish-cause.new.self.book.history (HasRun-whole stands.has_run (c.finish-cause.ensures.over found)) (stands.silent (subst (λ (run : Run). HearsSilent run c.finish-cause.new.self.book.history) (sym same) quiet)))))

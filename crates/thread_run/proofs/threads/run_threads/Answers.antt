@@ -15,7 +15,7 @@ returns g c =
     let started = take c.args.parts.len (changed ++ drop (length changed) c.args.parts.items) in
     let first : ChangesFirst stands_for Same (λ (h : Record). initialized h start.answer start.registered) c.args.parts.items started =
     changes-vector stands_for Same _ c.args.parts.items c.deref_mut.result.now changed c.args.parts.len c.deref_mut.ensures.value (sym c.args.parts.ok.0) c.initialize_first-start.ensures.first in
-    let run : Run = run_of_program c.args.program c.mask_of-mask.result c.args.threads c.args.steps in
+    let run : Run = run_of_program c.args.program c.mask_of-mask.result c.args.limits.threads c.args.limits.steps in
     let closed = c.in_ok-closed.closed in
     let team = c.in_ok-closed.parts in
     let between = team.items in
@@ -31,7 +31,7 @@ returns g c =
             legal = served.legal;
             parts =
                 runs-parts stands_for Same false run cause closed.history c.args.parts.items started between later start.answer start.registered c.mask_of-mask.ensures.mask
-                (omega (arith, c.requires.some, c.requires.parts)) first served.unheard served.left
+                (omega (arith, c.args.limits.some_threads, c.requires)) first served.unheard served.left
                 (λ other. served.all_heard (λ same. let both : Some cause ≡ Some causes.Memory = sym (c.known_cause.ensures other) ∙ same in let memory : cause ≡ causes.Memory = cc in other memory))
                 served.as_many served.each last;
             same =
