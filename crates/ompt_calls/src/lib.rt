@@ -38,6 +38,7 @@ mod event;
 mod line;
 mod mask;
 mod reply;
+mod same_call;
 mod snapshot;
 
 pub use argument::{Argument, Arguments};
