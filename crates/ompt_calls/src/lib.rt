@@ -40,6 +40,7 @@ mod event;
 mod line;
 mod mask;
 mod reply;
+mod same_call;
 mod sequence;
 mod snapshot;
 
