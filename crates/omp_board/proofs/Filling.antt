@@ -2,7 +2,7 @@
 use Rattle.std.proofs.Common.{◌≡◌, ℕ, zero, suc, ◌+◌, ◌-◌, ◌<◌, ◌≤◌, List, [], ◌∷◌, ◌++◌, ◌∙◌, length, slice_index_or, append-nil, refl, sym, ap, append_assoc, inl, inr, arith, take}
 use Rattle.std.specs.Prelude.{reverse}
 use Rattle.std.proofs.lemmas.Bool.Decides.{eqb_tells}
-use Rattle.std.proofs.lemmas.List.{reverse-append, take_more, length-reverse, length-take-le, take_all}
+use Rattle.std.proofs.lemmas.List.{reverse-append, take_more, length-reverse, length-take-le}
 use Rattle.ompt_calls.specs.declared.snapshot.TaskLevel.{TaskLevel}
 use Rattle.ompt_calls.specs.declared.snapshot.RegionLevel.{RegionLevel}
 use Rattle.omp_model.specs.declared.event.Event.{Event}
@@ -30,10 +30,6 @@ pub stack-none : (W : World) (t : ℕ) (event : Event) (u : ℕ) (stack : List �
 unfolding levels_from
 stack-none W t event u stack zero levels none = append-nil levels
 stack-none W t event u stack (suc below) levels none = absurd (omega arith)
-
--- all levels are left
-pub stack-all : (W : World) (t : ℕ) (event : Event) (u : ℕ) (stack : List ℕ) → levels_from W t event u (reverse (take (length stack) stack)) ≡ levels_from W t event u (reverse stack)
-stack-all W t event u stack = ap (λ tasks. levels_from W t event u (reverse tasks)) (take_all (length stack) stack (omega arith))
 
 -- one more level of a region, unless it is the last one again
 region-more : (W : World) (last : ℕ) (level : TaskLevel) (rest : List TaskLevel) → unless_again W last level.region ++ regions_after W level.region.identity rest ≡ regions_after W last (level ∷ rest)

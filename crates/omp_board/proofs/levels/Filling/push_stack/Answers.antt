@@ -1,6 +1,5 @@
 use Rattle.std.proofs.Common.{◌≡◌, ◌++◌, ◌∷◌, [], ◌∙◌, List, sym, ap, arith}
 use Rattle.ompt_calls.specs.declared.snapshot.RegionLevel.{RegionLevel}
-use Rattle.ompt_calls.specs.declared.snapshot.TaskLevel.{TaskLevel}
 use Rattle.omp_board.proofs.Filling.{regions-more, regions-none, stack-more, stack-none}
 use Rattle.omp_board.proofs.levels.Filling.push_stack.Goals as goal
 

@@ -10,5 +10,5 @@ returns-clause-regions c =
     let t = c.args.thread in
     let event = c.args.event in
     let outer = c.outer_tasks-outer.ensures.tasks ∙ ap (outer_tasks W) c.lowest.ensures in
-    both-stacks W (levels_from W t event t (reverse c.stack.result.now)) (levels_from W t event 0 (reverse c.outer_tasks-outer.result.now)) c.self.inside.regions.items c.push_stack.new.self.regions.items c.push_stack-2.new.self.regions.items c.push_stack.new.self.last c.push_stack-2.new.self.last c.self.invariant.1.1.0 c.push_stack.ensures.regions c.push_stack-2.ensures.regions
+    both-stacks W (levels_from W t event t (reverse c.stack.result.now)) (levels_from W t event 0 (reverse c.outer_tasks-outer.result.now)) c.self.inside.regions.items c.push_stack.new.self.regions.items c.push_stack-2.new.self.regions.items c.push_stack.new.self.last c.push_stack-2.new.self.last c.self.invariant.2 c.push_stack.ensures.regions c.push_stack-2.ensures.regions
     ∙ (λ i. region_levels W (levels_from W t event t (c.stack.ensures.tasks i) ++ levels_from W t event 0 (outer i)))
