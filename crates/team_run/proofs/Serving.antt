@@ -1,12 +1,9 @@
 -- What parts stand for after what their threads hear.
-use Rattle.std.proofs.Common.{◌≡◌, ◌≢◌, ℕ, ◌<◌, ◌==◌, Bool, true, false, if◌then◌else◌, cond, List, [], ◌∷◌, ◌++◌, filter, length, take, drop, slice_index_or, Option, None, refl, sym, ap, subst, ◌∙◌, append_assoc, append-nil, eq-eqb, arith, inl, inr}
+use Rattle.std.proofs.Common.{◌≡◌, ℕ, ◌<◌, ◌==◌, Bool, true, false, if◌then◌else◌, cond, List, [], ◌∷◌, ◌++◌, filter, length, take, drop, slice_index_or, Option, None, refl, sym, ap, subst, ◌∙◌, append_assoc, append-nil, eq-eqb, arith, inl, inr}
 use Rattle.std.proofs.lemmas.{List.take_all, List.drop_all, List.Elements.filter-append, Bool.Decides.eqb_tells}
-use Rattle.team_run.specs.Names.{Item, Record, initialized, told, Cause, Entry, Run, heard, heard_of, mask_of}
-use Rattle.omp_model.specs.declared.cause.Cause.TheVariants as causes
-use Rattle.team_run.specs.Serving.{Becomes, ChangesFirst, called_for, served, Serves, OnlyUnheard, told_on, finished_by}
-use Rattle.team_run.specs.Serving.{RunsParts, AreSame}
-use Rattle.team_run.specs.Unheard.{AreUnheard, is_of, unheard_on}
-use Rattle.team_run.specs.Standing.{AreSilent, HearsSilent, HearsOwn}
+use Rattle.team_run.specs.Names.{Item, Record, initialized, told, AreAlways, Entry, Run, heard, heard_of, mask_of}
+use Rattle.team_run.specs.Serving.{AreSame, Becomes, ChangesFirst, called_for, served, Serves, OnlyUnheard, told_on, finished_by}
+use Rattle.team_run.specs.{declared.ran.Ran.Ran, Program.HaveServed, Program.IsRan, Standing.AreSilent, Standing.HearsSilent, Standing.HearsOwn, Unheard.unheard_on}
 
 -- the items of one thread
 abbrev pub on_thread : ℕ → List Item → List Item
@@ -122,12 +119,6 @@ changes-vector {P} stands_for Same more items slice changed len whole full chang
     let of_items : ChangesFirst stands_for Same more items changed = subst (λ (slice : List P). ChangesFirst stands_for Same more slice changed) whole change in
     subst (λ (now : List P). ChangesFirst stands_for Same more items now) (sym (written-back changed items len of_items.as_many full)) of_items
 
--- parts of which none was called before were called for all that their threads heard
-pub served-all : {P : Type 0} (stands_for : P → Record → Type 0) (run : Run) (started between : List P) (H : List Entry) (unheard : Option ℕ) → Serves stands_for run started [] unheard between H
-    → (k : ℕ) (d : P) (h : Record) → k < length started → stands_for (slice_index_or started k d) h → stands_for (slice_index_or between k d) (called_for (heard_of run H k) (is_of unheard k) h)
-served-all stands_for run started between H unheard serves k d h below stands =
-    serves.each k d h below (subst (λ (h : Record). stands_for (slice_index_or started k d) h) (sym (served-nil h)) stands)
-
 -- the same parts, where nothing changes, and where one step follows another
 pub same-itself : {P : Type 0} (Same : P → P → Type 0) → ((part : P) → Same part part) → (parts : List P) → AreSame Same parts parts
 same-itself Same itself parts = record { each = λ k d below. itself (slice_index_or parts k d) }
@@ -136,31 +127,28 @@ pub same-then : {P : Type 0} (Same : P → P → Type 0) → ((first second thir
 same-then Same onward parts between after as_many first second =
     record { each = λ k d below. onward (slice_index_or parts k d) (slice_index_or between k d) (slice_index_or after k d) (first.each k d below) (second.each k d (omega (arith, below, as_many))) }
 
--- the same parts, from before the start of the first one until after its end
-pub same-around :
-    {P : Type 0} (stands_for : P → Record → Type 0) (Same : P → P → Type 0) → ((one other third : P) → Same one other → Same other third → Same one third) → (start last : Record → Record) (parts started between after : List P)
-    → ChangesFirst stands_for Same start parts started → length between ≡ length started → AreSame Same started between → ChangesFirst stands_for Same last between after → AreSame Same parts after
-same-around stands_for Same onward start last parts started between after first many same end =
-    same-then Same onward parts between after (many ∙ first.as_many) (same-then Same onward parts started between first.as_many first.same same) end.same
-
 -- the first part was started, all were called, and the first was finished
-pub runs-parts :
-    {P : Type 0} (stands_for : P → Record → Type 0) (Same : P → P → Type 0) (serial : Bool) (run : Run) (cause : Cause) (H : List Entry) (parts started between after : List P) (answer registered : ℕ) → run.mask ≡ mask_of answer registered → 0 < length parts
-    → ChangesFirst stands_for Same (λ (h : Record). initialized h answer registered) parts started
-    → (unheard : ℕ → Bool) → AreUnheard serial run cause H unheard → (cause ≢ causes.Memory → (k : ℕ) → k < run.threads → unheard k ≡ false) → length between ≡ length started
-    → ((k : ℕ) (d : P) (h : Record) → k < length started → stands_for (slice_index_or started k d) h → stands_for (slice_index_or between k d) (called_for (heard_of run H k) (unheard k) h))
-    → ChangesFirst stands_for Same (finished_by answer) between after → RunsParts stands_for serial run cause H parts after
-runs-parts {P} stands_for Same serial run cause H parts started between after answer registered mask_is some start unheard are_unheard all_heard many called last =
-    record {
-      as_many = last.as_many ∙ many ∙ start.as_many;
-      answer = answer;
-      registered = registered;
-      mask_is = mask_is;
-      unheard = unheard;
-      are_unheard = are_unheard;
-      all_heard = all_heard;
-      first = λ d h stands. last.first d _ (called 0 d (initialized h answer registered) (omega (arith, some, start.as_many)) (start.first d h stands));
-      each = λ k past below d h stands.
-          subst (λ (part : P). stands_for part (called_for (heard_of run H k) (unheard k) h)) (sym (last.others_are k d past))
-          (called k d h (omega (arith, below, start.as_many)) (subst (λ (part : P). stands_for part h) (sym (start.others_are k d past)) stands));
-    }
+pub is-ran :
+    {P : Type 0} (stands_for : P → Record → Type 0) (Same : P → P → Type 0) → ((one other third : P) → Same one other → Same other third → Same one third) → (is_serial : Bool) (run : Run) (ran : Ran P) (parts started between : List P) (answer registered : ℕ)
+    → run.mask ≡ mask_of answer registered → AreAlways ran.mask → 0 < length parts → ChangesFirst stands_for Same (λ (h : Record). initialized h answer registered) parts started
+    → HaveServed stands_for Same is_serial run ran.cause ran.history ran.text.items started between → ChangesFirst stands_for Same (finished_by answer) between ran.parts.items → IsRan stands_for Same is_serial run parts ran
+is-ran {P} stands_for Same onward is_serial run ran parts started between answer registered mask_is always some start served last = record {
+  to = served.to;
+  parts =
+      record {
+        as_many = last.as_many ∙ served.as_many ∙ start.as_many;
+        answer = answer;
+        registered = registered;
+        mask_is = mask_is;
+        unheard = served.unheard;
+        are_unheard = served.are_unheard;
+        all_heard = served.all_heard;
+        first = λ d h stands. last.first d _ (served.each 0 d (initialized h answer registered) (omega (arith, some, start.as_many)) (start.first d h stands));
+        each = λ k past below d h stands.
+            subst (λ (part : P). stands_for part (called_for (heard_of run ran.history k) (served.unheard k) h)) (sym (last.others_are k d past))
+            (served.each k d h (omega (arith, below, start.as_many)) (subst (λ (part : P). stands_for part h) (sym (start.others_are k d past)) stands));
+      };
+  same = same-then Same onward parts between ran.parts.items (served.as_many ∙ start.as_many) (same-then Same onward parts started between start.as_many start.same served.same) last.same;
+  always = always;
+  text = served.text_is;
+}

@@ -1,30 +1,16 @@
 -- A serial run after one more visit, and at its end.
-use Rattle.std.proofs.Common.{◌≡◌, ℕ, ℤ, zero, suc, ◌+◌, ◌<◌, ◌≤◌, Bool, true, false, List, [], ◌∷◌, ◌++◌, length, length-append, replicate, slice_set, slice_index_or, Option, Some, None, IsSome, is_none, refl, sym, ap, subst, ◌∙◌, arith, append-nil, append_assoc, Result, Ok, Err, OnOk, OnErr}
-use Rattle.std.specs.List.{list_all}
-use Rattle.std.proofs.lemmas.{Bool.true≢false, Bool.and_from, Bool.and_parts, List.set-set}
-use Rattle.team_run.specs.Names.{Call, Snapshot, Item, is_registered, Reply, Stored, stores_of, Entry, Callback, Event}
-use Rattle.team_run.specs.Names.{Outcome, Run, State, first, pending_at, call_of, callback_of, snap_of, turn, called}
-use Rattle.team_run.specs.Names.{after, put_from, back_from, back, heard, first_enabled, inside_after, StoresNothing}
-use Rattle.team_run.specs.Names.{go_at, event_reply, none_pending, cause_of, BookView, state_of, with_entries}
-use Rattle.team_run.specs.Names.{turn_visit, Record}
+use Rattle.std.proofs.Common.{◌≡◌, ◌≢◌, ℕ, ℤ, zero, suc, ◌+◌, ◌<◌, ◌≤◌, Bool, true, false, List, [], ◌∷◌, ◌++◌, length, length-append, replicate, slice_set, slice_index_or, Option, Some, None, IsSome, is_none, refl, sym, ap, subst, ◌∙◌, arith, append-nil, append_assoc, Result, Ok, Err, OnOk, OnErr}
+use Rattle.std.{specs.List.list_all, proofs.lemmas.Bool.true≢false, proofs.lemmas.Bool.and_from, proofs.lemmas.Bool.and_parts, proofs.lemmas.List.set-set}
 use Rattle.omp_model.specs.declared.cause.Cause.TheVariants as cause
-use Rattle.ompt_calls.specs.Snapshot.{target_of, stored, stored_of}
-use Rattle.ompt_calls.specs.{declared.snapshot.Target.Target, declared.reply.Store.Store}
-use Rattle.omp_model.specs.declared.event.Outcome.TheVariants.{Idle, Quiet, Happens, Halts}
-use Rattle.omp_model.specs.Cause.{whole_value, is_stuck, cause_of_whole, cause_by_halt}
-use Rattle.omp_model.proofs.Turns.{Leaves, leaves-turn, turn-pending, turns-rise, back-turns}
-use Rattle.omp_model.proofs.Recording.{HasRun-start, HasRun-after, HasRun-alone, HasRun-event, HasRun-serial}
-use Rattle.omp_model.proofs.Recording.{HasRun-pending, heard-alone, heard-event, heard-pending, event_at}
-use Rattle.omp_model.proofs.Recording.{first_enabled-below, first_enabled-enabled, first_enabled-none, put_all-turns}
-use Rattle.omp_model.proofs.Recording.{StoresNothing-append}
-use Rattle.omp_model.{specs.Storing.put_all, specs.Storing.MayStore, specs.declared.event.Halt.Halt, specs.Legal.put}
-use Rattle.omp_model.{specs.Running.HasRun, specs.Serial.enabled_among, proofs.Replies.may-store}
+use Rattle.omp_model.specs.{declared.event.Outcome.TheVariants.Idle, declared.event.Outcome.TheVariants.Quiet, declared.event.Outcome.TheVariants.Happens, declared.event.Outcome.TheVariants.Halts, declared.event.Halt.Halt, Cause.whole_value, Cause.is_stuck, Cause.cause_of_whole, Cause.cause_by_halt, Storing.put_all, Storing.MayStore, Legal.put, Running.HasRun, Serial.enabled_among}
+use Rattle.omp_model.proofs.{Turns.Leaves, Turns.leaves-turn, Turns.turn-pending, Turns.turns-rise, Turns.back-turns, SerialLaws.serial-whole, Replies.may-store}
+use Rattle.omp_model.proofs.Recording.{HasRun-start, HasRun-after, HasRun-alone, HasRun-event, HasRun-serial, HasRun-whole, HasRun-pending, heard-alone, heard-event, heard-pending, event_at, first_enabled-below, first_enabled-enabled, first_enabled-none, put_all-turns, StoresNothing-append}
+use Rattle.ompt_calls.specs.{Snapshot.target_of, Snapshot.stored, Snapshot.stored_of, declared.snapshot.Target.Target, declared.reply.Store.Store}
 use Rattle.omp_machine.proofs.{Storing.Inside, Storing.inside-put, Telling.IsTold, Telling.IsUntold}
 use Rattle.step_book.proofs.{Telling.HasUntold, Telling.IsAlone, Visiting.inside-told}
-use Rattle.team_run.specs.Standing.{AreSilent, HearsOwn, HearsSilent, StandsAt, StopsAt}
-use Rattle.team_run.specs.{Serving.Serves, Serving.ServesTo, Serving.OnlyUnheard, Serving.Answers, Unheard.IsUnheard}
-use Rattle.team_run.proofs.Serving.{serves-told, serves-unheard, hears-front, item-silent, own-told, own-unheard}
-use Rattle.team_run.proofs.Serving.{heard_of-same}
+use Rattle.team_run.specs.Names.{Call, Snapshot, Item, is_registered, Reply, Stored, stores_of, Entry, Callback, Cause, Event, Outcome, Run, State, first, pending_at, call_of, callback_of, snap_of, turn, called, after, put_from, back_from, back, heard, first_enabled, inside_after, StoresNothing, go_at, event_reply, none_pending, cause_of, BookView, state_of, with_entries, turn_visit, Record}
+use Rattle.team_run.specs.{Program.HaveServed, Serving.AreSame, Serving.Serves, Serving.ServesTo, Serving.OnlyUnheard, Serving.Answers, Standing.AreSilent, Standing.HearsOwn, Standing.HearsSilent, Standing.StandsAt, Standing.StopsAt, Unheard.IsUnheard, Unheard.is_of}
+use Rattle.team_run.proofs.Serving.{serves-told, serves-unheard, served-nil, hears-front, item-silent, own-told, own-unheard, heard_of-same}
 
 abbrev pub all_none : List (Option Callback) → Bool
 all_none pending = list_all (λ (callback : Option Callback). is_none callback) pending
@@ -308,6 +294,32 @@ module _ (book next : BookView) (from t : ℕ) (stands : StandsAt book.run from 
         whole = added ∙ ap (with_entries book) untold.added_is;
         visited = visited-untold book.run from book.history t stands turns stands_for parts untold.is_untold;
       }
+
+-- what a run that has stopped has come to
+pub have-served :
+    {P : Type 0} (stands_for : P → Record → Type 0) (Same : P → P → Type 0) (run : Run) (next : ℕ) (reason : Cause) (H : List Entry) (text : List ℕ) (parts others : List P)
+    → ServesTo stands_for run parts [] others H → AreSame Same parts others → StopsAt run H → (reason ≢ cause.Memory → StandsAt run next H) → (reason ≢ cause.Memory → first_enabled run (after run H) next ≡ None)
+    → (reason ≢ cause.Memory → cause_of run H ≡ Some reason) → (reason ≡ cause.Memory → H ≢ []) → text ≡ (after run H).world.store.text → HaveServed stands_for Same true run reason H text parts others
+have-served {P} stands_for Same run next reason H text parts others serves same stops stands over caused begun printed =
+    let heard : reason ≢ cause.Memory → serves.unheard ≡ None = λ found. unheard-none run next H serves.unheard (stands found) serves.is_unheard in
+    record {
+      to =
+          record {
+            legal = stops.serial.legal;
+            ends = caused;
+            own = stops.own;
+            in_order = λ is. stops.serial;
+            whole = λ is found silent. sym (serial-whole run H (HasRun-whole (stands found).has_run (over found)) ((stands found).silent silent));
+            begun = begun;
+          };
+      text_is = printed;
+      as_many = serves.serves.as_many;
+      unheard = is_of serves.unheard;
+      are_unheard = record { one = serves.unheard; is_unheard = serves.is_unheard; all_heard = heard; unheard_is = λ k. refl };
+      all_heard = λ found k below. ap (λ (unheard : Option ℕ). is_of unheard k) (heard found);
+      each = λ k d h below stood. serves.serves.each k d h below (subst (λ (h : Record). stands_for (slice_index_or parts k d) h) (sym (served-nil h)) stood);
+      same = same;
+    }
 
 -- what follows from either answer
 pub from_either : {X E : Type 0} (r : Result X E) {A B C : Type 0} → OnOk r A → OnErr r B → (A → C) → (B → C) → C
