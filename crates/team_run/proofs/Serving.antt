@@ -1,6 +1,6 @@
 -- What parts stand for after what their threads hear.
 use Rattle.std.proofs.Common.{◌≡◌, ℕ, ◌<◌, ◌==◌, Bool, true, false, if◌then◌else◌, cond, List, [], ◌∷◌, ◌++◌, filter, length, take, drop, slice_index_or, Option, None, refl, sym, ap, subst, ◌∙◌, append_assoc, append-nil, eq-eqb, arith, inl, inr}
-use Rattle.std.proofs.lemmas.{List.take_all, List.drop_all, List.Elements.filter-append, Bool.Decides.eqb_tells}
+use Rattle.std.proofs.lemmas.{List.take_all, List.drop_all, List.Elements.filter-append, Bool.ne_eqb}
 use Rattle.team_run.specs.Names.{Item, Record, initialized, told, AreAlways, Entry, Run, heard, heard_of, mask_of}
 use Rattle.team_run.specs.Serving.{AreSame, Becomes, ChangesFirst, called_for, served, Serves, OnlyUnheard, told_on, finished_by}
 use Rattle.team_run.specs.{declared.ran.Ran.Ran, Program.HaveServed, Program.IsRan, Standing.AreSilent, Standing.HearsSilent, Standing.HearsOwn, Unheard.unheard_on}
@@ -91,13 +91,9 @@ pub item-silent : (run : Run) (H K : List Entry) (t : ℕ) (item : Item) → ite
 item-silent run H K t item is more below silent =
     (subst AreSilent (own-item t item is) (hears-back run H K (item ∷ []) more t below silent)).0
 
--- two numbers of which one is less
-apart : (t k : ℕ) → t < k → (t == k) ≡ false
-apart t k below = elim (eqb_tells t k) [ inl same ↦ absurd (omega (arith, same.1, below)) | inr different ↦ different.0 ]
-
 -- nothing is heard on a thread that the run doesn't have, where one item more is heard on another
 other-item : (t k : ℕ) (item : Item) → item.thread ≡ t → t < k → on_thread k (item ∷ []) ≡ []
-other-item t k item is below = rw (is, apart t k below) refl
+other-item t k item is below = rw (is, ne_eqb t k (λ same. omega (arith, same, below))) refl
 
 pub own-told : (run : Run) (H K : List Entry) (t : ℕ) (item : Item) → item.thread ≡ t → t < run.threads → heard run K ≡ heard run H ++ item ∷ [] → HearsOwn run H → HearsOwn run K
 own-told run H K t item is below more own = λ k past.

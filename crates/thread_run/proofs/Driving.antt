@@ -1,26 +1,14 @@
 -- What a driver's part was called for, after each call of its pass.
 use Rattle.std.proofs.Common.{◌≡◌, ℕ, ◌+◌, ◌<◌, Bool, true, false, if◌then◌else◌, List, [], ◌∷◌, ◌++◌, length, Option, Some, None, Result, Ok, Err, IfOk, OnErr, slice_index_or, slice_set, get_or-set_same, refl, sym, ap, subst, ◌∙◌, append_assoc, append-nil, inl, inr, arith}
-use Rattle.std.specs.Result.{IsOk}
-use Rattle.std.proofs.lemmas.{Bool.true≢false, Bool.cases_lt, List.get_or_past, List.length-set, List.length-replicate}
-use Rattle.team_run.specs.Names.{Call, Reply, Snapshot, Item, item_of, is_registered, Stored, stores_of, Record}
-use Rattle.team_run.specs.Names.{one_unheard, told, Cause, Callback, Event, Entry, Run, State, first, pending_at}
-use Rattle.team_run.specs.Names.{call_of, callback_of, heard_of, Legal, after, after_from, back, back_from, entered}
-use Rattle.team_run.specs.Names.{inside_after, snap_of, event_reply, go_at, turn, Step, Told, NotBy, Owes, BookView}
-use Rattle.team_run.specs.Names.{state_of, entries_of, AddsHold, PassView, book_after, turn_visit}
+use Rattle.std.{specs.Result.IsOk, proofs.lemmas.Bool.true≢false, proofs.lemmas.Bool.false_from_ne_true, proofs.lemmas.Bool.cases_lt, proofs.lemmas.List.get_or_past, proofs.lemmas.List.length-set, proofs.lemmas.List.length-replicate}
 use Rattle.omp_model.specs.declared.cause.Cause.TheVariants as causes
 use Rattle.omp_model.specs.declared.event.Outcome.TheVariants as outcome
-use Rattle.omp_model.specs.{Legal.AllowsFrom, Storing.back_at, Storing.puts_at}
-use Rattle.omp_model.proofs.Turns.{leaves-turn, turn-goes}
-use Rattle.step_book.specs.declared.step.Step.TheVariants.{Quiet, NotYet, Ended}
-use Rattle.step_book.specs.Sharing.{AnswersThen, VisitsAfterOthers, IsHold}
-use Rattle.step_book.specs.Visit.{Visit, idle_by, idle_step, is_turn, visit}
-use Rattle.step_book.specs.{declared.hold.Hold.Hold, Steps.hold_by}
-use Rattle.step_book.proofs.Others.{entries-append, entries-others, not_by-append, owes-still}
-use Rattle.step_book.proofs.Telling.{ended-step, not_yet-step, quiet-step, told-step}
-use Rattle.step_book.proofs.{Histories.after-append, Visiting.visit-idle, Visiting.visit-turn}
-use Rattle.thread_run.specs.Driving.{GoesOn, HasCome, HasStep, IsDriven, IsInside}
+use Rattle.omp_model.{specs.Cause.cause_of, specs.Heard.has_back, specs.Legal.AllowsFrom, specs.Storing.back_at, specs.Storing.puts_at, proofs.Turns.leaves-turn, proofs.Turns.turn-goes}
+use Rattle.step_book.specs.{declared.hold.Hold.Hold, declared.step.Step.TheVariants.Quiet, declared.step.Step.TheVariants.NotYet, declared.step.Step.TheVariants.Ended, Sharing.AnswersThen, Sharing.VisitsAfterOthers, Sharing.IsHold, Steps.hold_by, Visit.Visit, Visit.idle_by, Visit.idle_step, Visit.is_turn, Visit.visit}
+use Rattle.step_book.proofs.{Histories.after-append, Others.entries-append, Others.entries-others, Others.not_by-append, Others.owes-still, Telling.ended-step, Telling.not_yet-step, Telling.quiet-step, Telling.told-step, Visiting.visit-idle, Visiting.visit-turn}
+use Rattle.team_run.specs.Names.{Call, Reply, Snapshot, Item, item_of, is_registered, Stored, stores_of, Record, one_unheard, told, Cause, Callback, Event, Entry, Run, State, first, pending_at, call_of, callback_of, heard_of, Legal, after, after_from, back, back_from, entered, inside_after, snap_of, event_reply, go_at, turn, Step, Told, NotBy, Owes, BookView, state_of, entries_of, AddsHold, PassView, book_after, turn_visit}
 use Rattle.team_run.{specs.Serving.served, specs.Unheard.LeftAt, proofs.Visiting.same-pending}
-use Rattle.thread_run.proofs.Hearing.{answered, back-others, heard-split, heard_on, more-without}
+use Rattle.thread_run.{specs.Driving.HasCome, specs.Driving.HasStep, specs.Driving.IsDriven, specs.Driving.IsInside, proofs.Hearing.answered, proofs.Hearing.back-append, proofs.Hearing.back-others, proofs.Hearing.heard-split, proofs.Hearing.heard_on, proofs.Hearing.item_with, proofs.Hearing.more-without}
 
 -- Entries that leave a thread as it was.
 
@@ -89,7 +77,7 @@ calm-visit book t below outside none = elim (is_turn book t) as (λ b. is_turn b
 
 -- a visit that tells of an event has its Go
 idle-untold : (book : BookView) (seq : ℕ) (call : Call) (snapshot : Snapshot) → idle_step book ≡ Told seq call snapshot → ⊥
-idle-untold book seq call snapshot = by book.ended (Rattle.omp_model.specs.Cause.cause_of book.run book.history)
+idle-untold book seq call snapshot = by book.ended (cause_of book.run book.history)
   where
     by : (ended : Bool) (cause : Option Cause) → (if◌then◌else◌ {A = Step} ended (Ended causes.Memory) (idle_by cause)) ≡ Told seq call snapshot → ⊥
     by true cause told = cc
@@ -151,11 +139,7 @@ module _ {P : Type 0} (stands_for : P → Record → Type 0) (Same : P → P →
 
   -- a pass that hasn't ended the run is inside no callback
   not-unheard : (pass : PassView) (part : P) → pass.ended ≡ false → (driven : Driven pass part) → driven.unheard ≡ false
-  not-unheard pass part ended driven = by driven.unheard driven.over
-    where
-      by : (unheard : Bool) → (unheard ≡ true → pass.ended ≡ true) → unheard ≡ false
-      by true over = absurd (true≢false (sym (over refl) ∙ ended))
-      by false over = refl
+  not-unheard pass part ended driven = false_from_ne_true driven.unheard (λ is. true≢false (sym (driven.over is) ∙ ended))
 
   pub outside-of : (pass : PassView) (part : P) → pass.ended ≡ false → Driven pass part → pending_at (after run (entries_of pass.seen)) pass.thread ≡ None
   outside-of pass part ended driven = rw (not-unheard pass part ended driven) at driven.left
@@ -196,8 +180,8 @@ module _ {P : Type 0} (stands_for : P → Record → Type 0) (Same : P → P →
       rw (seen, goes.is_hold.thread) (more-without run (first run) 0 t (entries_of pass.seen) more (no-back t (entries_of goes.between) goes.is_hold.not_by)) in
       record { hears = λ h stands. rw same (inside.hears h stands); same_is = inside.same_is }
     where
-      no-back : (t : ℕ) (xs : List Entry) → NotBy t xs → Rattle.omp_model.specs.Heard.has_back t (xs ++ go_at t ∷ []) ≡ false
-      no-back t xs none = Rattle.thread_run.proofs.Hearing.back-append t xs (go_at t ∷ []) refl ∙ back-others t xs none
+      no-back : (t : ℕ) (xs : List Entry) → NotBy t xs → has_back t (xs ++ go_at t ∷ []) ≡ false
+      no-back t xs none = back-append t xs (go_at t ∷ []) refl ∙ back-others t xs none
 
   -- its callback was answered
   pub driven-answered :
@@ -288,10 +272,3 @@ module _ {P : Type 0} (stands_for : P → Record → Type 0) (Same : P → P →
   come-answered pass later part next seq call snapshot reply (Err e) legal below open_now owes goes memory same tells onward kept inside =
       let driven = driven-answered pass memory.answered part next seq call snapshot reply legal below owes memory.grows tells onward kept inside in
       λ last grows ended. driven-ended memory.answered later last next memory.next (same ∙ sym memory.ended) grows ended driven
-
--- a driver whose pass's visit told of no event goes on, and its part is as it was
-pub goes-quiet :
-    {P : Type 0} (stands_for : P → Record → Type 0) (Same : P → P → Type 0) (run : Run) (pass later : PassView) (part : P) (step : Step) → later.thread ≡ pass.thread → pass.thread < run.threads → pass.ended ≡ false
-    → (pass.ended ≡ false → VisitsAfterOthers run pass step later) → ((seq : ℕ) (call : Call) (snapshot : Snapshot) → step ≡ Told seq call snapshot → ⊥) → GoesOn stands_for Same run pass part later part
-goes-quiet stands_for Same run pass later part step thread below open_now goes none =
-    record { thread = thread; driven = λ whose driven. driven-quiet stands_for Same run whose pass later part step below open_now (goes open_now) none driven }

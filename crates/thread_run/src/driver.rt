@@ -31,9 +31,9 @@ pub(crate) fn drive<R: Wait, K: BookName, P: ToolPart>(
     ensures goes { GoesOn P.stands_for P.same K.run pass.old part.old pass.new part.new }
     ensures over { is_over pass.new ≡ true }
 {
-    let mut came = Ok(Step::Quiet);
+    pass.legal();
+    let mut came = book.go(rt, pass);
     for _ in rt.forever() {
-        pass.legal();
         if let Ok(Step::NotYet) = came {
             book.sleep(rt, pass);
         }
