@@ -106,15 +106,15 @@ module _ {S O : Type 0} (left : S → Option (List ℕ)) (reads_failed : S → �
                     (subst (λ (one : Settings). IfSome (text_for one.command (left source)) (λ text. text ≡ job.loaded.text.items)) (sym is) loaded.same);
                 spelled = spells;
                 mask = λ other. (r.stays other).mask_is;
-                always = r.observes.to.always;
+                always = r.observes.always;
                 legal = r.observes.to.legal;
                 cause = r.observes.to.ends;
                 finished = λ found. finished (run_of report) report.history report.cause r.observes.to.legal (r.observes.to.ends found);
-                outside = r.observes.to.outside;
+                outside = r.observes.outside;
                 serial = r.observes.to.in_order;
                 whole = λ serial other found. r.observes.to.whole serial found (r.stays other).silent;
                 silent_run = r.observes.to.whole;
-                to_the_end = λ serial found. whole-ended (run_of report) report.history (r.observes.to.in_order serial) (subst IsSome (sym (r.observes.to.ends found)) refl) (r.observes.to.outside found);
+                to_the_end = λ serial found. whole-ended (run_of report) report.history (r.observes.to.in_order serial) (subst IsSome (sym (r.observes.to.ends found)) refl) (r.observes.outside found);
                 ended = r.ended;
                 memory = r.memory;
                 begun = r.observes.to.begun;
@@ -131,7 +131,7 @@ module _ {S O : Type 0} (left : S → Option (List ℕ)) (reads_failed : S → �
               record {
                 traced = r.traced;
                 nested = λ other found.
-                    nested-run (run_of report) report.history report.cause (some-threads job report r.observes) (few-threads job report r.observes) (r.stays other).mask_is (text_in report) spells r.observes.to.legal (r.observes.to.ends found) (r.observes.to.outside found);
+                    nested-run (run_of report) report.history report.cause (some-threads job report r.observes) (few-threads job report r.observes) (r.stays other).mask_is (text_in report) spells r.observes.to.legal (r.observes.to.ends found) (r.observes.outside found);
                 history_file = λ whole memory filed.
                     record { is_file = (r.certified whole memory filed).is_file; bytes_are = sym (filed-text report filed (ends-found report.cause told r.ended memory)) };
                 certificate = λ whole memory filed. (r.certified whole memory filed).certificate;

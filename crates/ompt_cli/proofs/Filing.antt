@@ -65,5 +65,5 @@ module _ {Table : Type 0} {Behind : Table → Type 0} (report : Report Table Beh
   filed job observes found fits fits_cause =
       let steps : report.steps ≡ job.settings.steps = ap (λ (settings : Settings). settings.steps) observes.asked in
       let both = files_of_runs (run_of report) (text_in report) report.history report.cause (some-threads job report observes) (few-threads job report observes) (omega (arith, steps, job.steps)) (omega (arith, steps, job.bounded))
-      observes.to.always (subst (λ (text : List ℕ). length text ≤ 65536) (sym observes.text_is) job.short) observes.to.legal (observes.to.ends found) fits fits_cause in
+      observes.always (subst (λ (text : List ℕ). length text ≤ 65536) (sym observes.text_is) job.short) observes.to.legal (observes.to.ends found) fits fits_cause in
       record { is_file = both.0; certificate = both.1 }

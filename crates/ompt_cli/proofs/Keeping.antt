@@ -140,7 +140,7 @@ has_kept keep stands into out Same job observed has =
             mask_is = parts-all keep stands into out report.serial (run_of report) report.cause report.history job.settings.threads observed.parts.items job.some has.runs;
             silent = parts-silent keep stands into out report.serial (run_of report) report.cause report.history job.settings.threads observed.parts.items job.some has.runs threads;
           };
-      kept = parts-kept keep stands into out report.serial (run_of report) report.cause report.history job.settings.threads observed.parts.items job.some has.runs has.observes.to.legal threads has.own;
+      kept = parts-kept keep stands into out report.serial (run_of report) report.cause report.history job.settings.threads observed.parts.items job.some has.runs has.observes.to.legal threads has.observes.to.own;
       printed = has.printed;
     }
 

@@ -1,7 +1,13 @@
 -- What a command comes to that has a text to run: the program that it spells, or an end before a run.
 use Rattle.std.specs.Prelude.{ℕ, ◌≡◌, List, Option, IfSome, IsSomeAnd}
 use Rattle.ompt_cli.specs.{Commands.IsBeforeRun, Commands.MayRefuse, Commands.MayRun, declared.end.Refusal.Refusal, declared.end.End.End}
-use Rattle.ompt_cli.specs.{declared.end.End.TheVariants.Refused, declared.job.Loaded.Loaded, Text.IsProgram, Text.IsRefused, Text.Spells}
+use Rattle.ompt_cli.specs.{declared.end.End.TheVariants.Refused, declared.job.Loaded.Loaded, declared.report.ProgramTree.ProgramTree}
+use Rattle.ompt_cli.specs.Text.{IsProgram, IsRefused, Spells}
+
+-- contracts see the program and the text of what was loaded
+pub record IsOf (loaded : Loaded) (program : ProgramTree) : Type 0 where
+  pub tree : program.tree.value ≡ loaded.program
+  pub text : program.text.value ≡ loaded.text
 
 -- this was loaded of the text: a program that it spells
 pub record IsLoaded (text : Option (List ℕ)) (loaded : Loaded) : Type 0 where

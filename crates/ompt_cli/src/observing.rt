@@ -1,12 +1,12 @@
 //! The run of a job, serially or with a thread for each thread number, and its report.
 
-ghost use Rattle.std.specs.Prelude.{◌≡◌, ◌≢◌, [], IfOk, length, true};
-ghost use Rattle.ompt_cli.specs.Reports.{HasObserved};
+ghost use Rattle.std.specs.Prelude.{◌≡◌, IfOk, List, length, true};
+ghost use Rattle.team_run.specs.Program.{IsRan, run_of};
+ghost use Rattle.ompt_cli.specs.{declared.job.Job.Job, Loading.IsOf, Reports.HasObserved};
 
 use crate::guests::Guests;
 use crate::job::Job;
 use crate::report::{ProgramTree, Report};
-use omp_model::Cause;
 use ompt_words::Settings;
 use std::alloc::{AllocError, Global};
 use std::sync::Wait;
@@ -64,43 +64,21 @@ pub(crate) fn observe<R: Threads + Wait + Sync, P: ToolPart>(
     let program = ProgramTree::of(&loaded);
     let (threads, steps) = (settings.threads, settings.steps);
     let ran = run_threads(rt, alloc, loaded.program, threads, steps, parts)?;
-    let begun = begun_run(ran)?;
-    Ok(with_report(settings, program, begun, guests))
-}
-
-/// The run, unless it found no memory for its first entry.
-fn begun_run<P: ToolPart>(ran: Ran<P>) -> Result<Ran<P>, AllocError>
-    ensures run { IfOk result (λ begun. begun ≡ ran) }
-    ensures begun { IfOk result (λ begun. begun.cause ≡ Cause.Memory → begun.history ≢ []) }
-{
-    if ran.cause == Cause::Memory && ran.history.entries().is_empty() {
-        return Err(AllocError);
-    }
-    Ok(ran)
+    Ok(with_report(settings, program, ran, guests))
 }
 
 /// What a run of this program with these settings gave, with these guests in its report.
-fn with_report<P>(
+fn with_report<P: ToolPart>(
     settings: Settings,
     program: ProgramTree,
     ran: Ran<P>,
     guests: Guests,
 ) -> Observed<P>
-    ensures { result ≡ record {
-      report = record {
-        command = settings.command;
-        cause = ran.cause;
-        program = program;
-        mask = ran.mask;
-        threads = settings.threads;
-        steps = settings.steps;
-        serial = settings.serial;
-        history = ran.history;
-        guests = guests;
-      };
-      parts = ran.parts;
-      text = ran.text;
-    } }
+    ensures observed { (job : Job) (parts : List P) → settings ≡ job.settings → IsOf job.loaded program →
+        IsRan P.stands_for P.same settings.serial
+            (run_of program.tree.value settings.threads settings.steps ran) parts ran →
+        HasObserved P.stands_for P.same job parts result }
+    ensures guests { result.report.guests ≡ guests }
 {
     Observed {
         report: Report {

@@ -1,6 +1,7 @@
 //! How a command ended, and what it reports of its run.
 
 ghost use Rattle.std.specs.Prelude.{◌≡◌, None};
+ghost use Rattle.ompt_cli.specs.Loading.{IsOf};
 
 use crate::end::End;
 use crate::job::Loaded;
@@ -23,8 +24,7 @@ pub struct ProgramTree {
 impl ProgramTree {
     /// The tree of the program, with its text.
     pub(crate) fn of(loaded: &Loaded) -> ProgramTree
-        ensures tree { result.tree.value ≡ loaded.now.program }
-        ensures text { result.text.value ≡ loaded.now.text }
+        ensures { IsOf loaded.now result }
     {
         ProgramTree {
             tree: Snapshot::of(&loaded.program),

@@ -7,7 +7,7 @@ use Rattle.ompt_cli.proofs.run.serve.Goals as goal
 pub returns-clause-observes : goal.returns-clause-observes
 returns-clause-observes g c =
     let observes = c.in_ok-report.ensures.observes in
-    record { asked = observes.asked; program_is = observes.program_is; text_is = observes.text_is; to = observes.to }
+    record { asked = observes.asked; program_is = observes.program_is; text_is = observes.text_is; to = observes.to; outside = observes.outside; always = observes.always }
 
 pub returns-clause-guests : goal.returns-clause-guests
 returns-clause-guests g c =

@@ -22,4 +22,4 @@ returns-clause-counted g c =
     rw c.part_all-parts.ensures.profiles
     (profiles_beside (λ guest. guest.0) _ (λ guest other. guest.vtable ≡ other.vtable) report.serial (run_of report) report.cause report.history (some-threads c.args.job report has.observes)
     c.in_ok-parts-2.field-0.masks c.in_ok-parts.field-0.parts.items joined c.in_ok-report.field-0.parts.items (c.in_ok-parts.ensures.each ∙ sym (threads-are c.args.job report has.observes))
-    c.in_ok-parts-2.ensures.joined has.runs has.observes.to.legal has.own)
+    c.in_ok-parts-2.ensures.joined has.runs has.observes.to.legal has.observes.to.own)
