@@ -13,7 +13,7 @@ use Rattle.team_run.specs.Serving.{RunsParts, served}
 use Rattle.team_run.specs.Standing.{AreSilent, HearsOwn, HearsSilent}
 use Rattle.ompt_cli.specs.Reports.{HasKept, HasObserved}
 use Rattle.ompt_cli.specs.{declared.observing.Observed.Observed, declared.job.Job.Job, Commands.run_of}
-use Rattle.ompt_cli.proofs.{Calls.SameCalls, Calls.same-first, Calls.same-unheard, Telling.threads-are}
+use Rattle.ompt_cli.proofs.{Calls.is-at, Calls.part-at, Calls.record_at, Telling.threads-are}
 
 -- positions from one on are from each smaller one on
 from-less : (least more : ℕ) (events : List EventRecord) → least ≤ more → AreFrom more events → AreFrom least events
@@ -52,29 +52,8 @@ heard-shared run H threads some legal same own =
       each = λ k d below. get_or-map-range_with_len (λ (k : ℕ). map record_of (heard_of run H k)) 0 threads k k d (omega (arith, below, as_many)) (omega arith) ∙ sym (records-by_thread (heard run H) k);
     }
 
-module _ {A : Type 0} (keep : List EventRecord → A) where
-  fresh-keeper : KeeperFor keep (keep []) nothing_called
-  fresh-keeper = record { started = λ k d below. absurd (omega (arith, below)); silent = λ k d below. absurd (omega (arith, below)); events = refl; alone = refl }
-
-  -- a part stands for its starts and calls alone
-  same-keeper : (kept : A) (g h : Record) → SameCalls g h → KeeperFor keep kept g → KeeperFor keep kept h
-  same-keeper kept g h same for =
-      record {
-        started = subst (λ starts. StartedWith 1 PROFILE_MASK starts) same.started for.started;
-        silent = subst StoresNothing same.calls for.silent;
-        events = subst (λ calls. kept ≡ keep (map record_of calls)) same.calls for.events;
-        alone = subst (λ within. within ≡ []) same.within for.alone;
-      }
-
-  -- what a part kept, of calls that stored nothing
-  record KeepsOf (kept : A) (items : List Item) : Type 0 where
-    events : kept ≡ keep (map record_of items)
-    silent : AreSilent items
-
-  keeps-of : (kept : A) (h : Record) → h.calls ≡ [] → (items : List Item) → KeeperFor keep kept (served h items) → KeepsOf kept items
-  keeps-of kept h none items for =
-      let calls : h.calls ++ items ≡ items = ap (λ calls. calls ++ items) none in
-      record { events = subst (λ calls. kept ≡ keep (map record_of calls)) calls for.events; silent = silent-each items (subst StoresNothing calls for.silent) }
+fresh-keeper : {A : Type 0} (keep : List EventRecord → A) → KeeperFor keep (keep []) nothing_called
+fresh-keeper keep = record { started = λ k d below. absurd (omega (arith, below)); silent = λ k d below. absurd (omega (arith, below)); events = refl; alone = refl }
 
 -- parts that each keep their thread's share keep the run's records
 pub kept-shares : {A : Type 0} (keep : List EventRecord → A) (run : Run) (H : List Entry) (threads : ℕ) (parts : List A) → length parts ≡ threads
@@ -96,35 +75,30 @@ module _ {A : Type 0} (keep : List EventRecord → A) (stands : A → Record →
   as_many : length parts ≡ threads
   as_many = runs.as_many ∙ length-replicate threads (keep [])
 
-  -- a fresh part for each thread
-  fresh-at : (k : ℕ) (d : A) → k < threads → stands (slice_index_or (replicate threads (keep [])) k d) nothing_called
-  fresh-at k d below = subst (λ kept. stands kept nothing_called) (sym (get_or-replicate threads k (keep []) d below)) (into (keep []) nothing_called (fresh-keeper keep))
-
-  -- the first part, after its start
-  first-part : (d : A) → KeeperFor keep (slice_index_or parts 0 d) (served (initialized nothing_called runs.answer runs.registered) (heard_of run H 0))
-  first-part d =
-      same-keeper keep (slice_index_or parts 0 d) _ _ (same-first runs.answer runs.registered (heard_of run H 0) (runs.unheard 0) nothing_called)
-      (out _ _ (runs.first d nothing_called (fresh-at 0 d (omega (arith, some)))))
-
   -- each part kept what its thread heard
-  keeps : (k : ℕ) (d : A) → k < threads → KeepsOf keep (slice_index_or parts k d) (heard_of run H k)
-  keeps zero d below = keeps-of keep (slice_index_or parts 0 d) (initialized nothing_called runs.answer runs.registered) refl (heard_of run H 0) (first-part d)
-  keeps (suc k) d below =
-      keeps-of keep (slice_index_or parts (suc k) d) nothing_called refl (heard_of run H (suc k)) (same-keeper keep (slice_index_or parts (suc k) d) _ _ (same-unheard (heard_of run H (suc k)) (runs.unheard (suc k)) nothing_called) (out _ _ (runs.each (suc k) (omega arith) (subst (λ n. suc k < n) (sym (length-replicate threads (keep []))) below) d nothing_called (fresh-at (suc k) d below))))
+  keeps-at : (k : ℕ) (d : A) → k < threads → KeeperFor keep (slice_index_or parts k d) (record_at runs.answer runs.registered k (heard_of run H k) (runs.unheard k) nothing_called)
+  keeps-at k d below =
+      out _ _ (part-at stands serial run cause H (replicate threads (keep [])) parts runs k (omega (arith, below, length-replicate threads (keep []))) d nothing_called
+      (rw (get_or-replicate threads k (keep []) d below) (into (keep []) nothing_called (fresh-keeper keep))))
+
+  calls-at : (k : ℕ) → (record_at runs.answer runs.registered k (heard_of run H k) (runs.unheard k) nothing_called).calls ≡ heard_of run H k
+  calls-at k = (is-at runs.answer runs.registered k (heard_of run H k) (runs.unheard k) nothing_called).calls
 
   -- so nothing was stored
   parts-silent : run.threads ≡ threads → HearsSilent run H
-  parts-silent same = λ k below. (keeps k (keep []) (subst (λ n. k < n) same below)).silent
+  parts-silent same = λ k below. silent-each (heard_of run H k) (subst StoresNothing (calls-at k) (keeps-at k (keep []) (omega (arith, below, same))).silent)
 
   -- and all callbacks of the profile were registered
   parts-all : run.mask ≡ PROFILE_MASK
   parts-all =
-      let started = (first-part (keep [])).started 0 (record { answer = 0; mask = 0 }) (omega arith) in
+      let starts = subst (λ starts. StartedWith 1 PROFILE_MASK starts) (is-at runs.answer runs.registered 0 (heard_of run H 0) (runs.unheard 0) nothing_called).started (keeps-at 0 (keep []) (omega (arith, some))).started in
+      let started = starts 0 (record { answer = 0; mask = 0 }) (omega arith) in
       runs.mask_is ∙ ap (λ answer. mask_of answer runs.registered) started.0 ∙ started.1
 
   -- each part kept its share of the run's records
   parts-kept : Legal run H → run.threads ≡ threads → HearsOwn run H → AreKept keep (records_of run H) parts
-  parts-kept legal same own = kept-shares keep run H threads parts as_many (λ k d below. (keeps k d below).events) (omega (arith, some, same)) legal same own
+  parts-kept legal same own =
+      kept-shares keep run H threads parts as_many (λ k d below. subst (λ calls. slice_index_or parts k d ≡ keep (map record_of calls)) (calls-at k) (keeps-at k d below).events) (omega (arith, some, same)) legal same own
 
 -- so for a report of a run of such parts: all callbacks were registered, nothing was stored, and each part keeps its share of the run's records
 pub has_kept :
