@@ -4,15 +4,16 @@ use Rattle.std.proofs.lemmas.List.{get_or-map, length-map, nil_from_length}
 use Rattle.omp_model.specs.declared.cause.Cause.TheVariants as causes
 use Rattle.tool_api.specs.declared.handed.Handed.TheVariants as held
 use Rattle.tool_api.specs.{Record.Start, Handed.handed-onward}
-use Rattle.tool_both.specs.{declared.masks.Masks.Masks, Joined.starts_of, Tools.fresh_both}
+use Rattle.tool_both.specs.{declared.masks.Masks.Masks, Tools.fresh_both}
 use Rattle.tool_profiled.specs.Joining.{AreJoined, Profiled, nothing_counted, part_in, profile_in}
 use Rattle.tool_profiled.proofs.Hearing.{first-heard, with_mark, other-heard, other-hears, other-started, part-silent, part-started, profile-counts, run-answer, run-mask, nothing_said}
-use Rattle.tool_profiled.proofs.{Standing.each-unsaid, Standing.first-is, Standing.first-marked, Standing.other-is, Standing.other-marked, Union.in-union}
+use Rattle.tool_profiled.proofs.Standing.{each-unsaid, first-is, first-marked, other-is, other-marked}
+use Rattle.tool_profiled.proofs.Union.{in-union}
 use Rattle.team_run.specs.{Serving.AreSame, Serving.RunsParts, Standing.AreSilent, Standing.HearsOwn}
 use Rattle.ompt_cli.specs.Names.{is_registered, PROFILE_MASK, IsUncalled, Record, StoresNothing, initialized, mask_of, Handed, Cause, Entry, Run, heard_of, Legal, record_of, records_of, counts_of, AreKept, HasHeard, HasStarted, ProfiledFor, SameProfiled}
-use Rattle.ompt_cli.specs.Guests.{GuestsJoin, HandOut, ComesTo, guests_of}
-use Rattle.ompt_cli.proofs.{Calls.IsAt, Calls.begun_at, Calls.first-ended, Calls.is-at, Calls.other-ended, Calls.part-at, Calls.record_at, Keeping.kept-shares, Keeping.nothing_called, Keeping.silent-each}
+use Rattle.ompt_cli.proofs.Calls.{IsAt, begun_at, first-ended, is-at, other-ended, part-at, record_at}
 use Rattle.ompt_cli.proofs.Handing.{For, IsAgain, SamePart, again, fresh-quiet, guest-at, none-in, none-out}
+use Rattle.ompt_cli.{specs.Guests.GuestsJoin, specs.Guests.HandOut, specs.Guests.ComesTo, specs.Guests.guests_of, proofs.Keeping.kept-shares, proofs.Keeping.nothing_called, proofs.Keeping.silent-each}
 
 uncalled : IsUncalled nothing_called
 uncalled = record { started = refl; calls = refl; finished = refl; unheard = refl }

@@ -1,8 +1,8 @@
 -- The records of a run's parts: the first, which was started, and the others.
 use Rattle.std.proofs.Common.{◌≡◌, ℕ, zero, suc, ◌<◌, ◌==◌, Bool, true, false, if◌then◌else◌, List, ◌++◌, length, slice_index_or, refl, ◌∙◌, arith}
-use Rattle.ompt_cli.specs.Names.{Item, Record, initialized, Cause, Entry, Run, heard_of}
 use Rattle.tool_api.specs.Record.{finalized}
 use Rattle.team_run.specs.Serving.{RunsParts, called_for, finished_by, record_of_first, served}
+use Rattle.ompt_cli.specs.Names.{Item, Record, initialized, Cause, Entry, Run, heard_of}
 
 -- the record of part k once the run has started, and once it has ended
 abbrev pub begun_at : ℕ → ℕ → ℕ → Record → Record

@@ -1,29 +1,19 @@
 -- What each way through the top call carries out, in the words of its contract.
 use Rattle.std.proofs.Common.{ℕ, ◌≡◌, ◌≢◌, ◌⊎◌, ◌∙◌, List, [], Option, Some, None, IfSome, IsNone, IsSomeAnd, Bool, not, true, false, inl, inr, refl, sym, ap, subst}
 use Rattle.std.specs.Prelude.{IsSome, string_bytes}
-use Rattle.std.proofs.lemmas.List.{append-nil}
-use Rattle.std.specs.Io.KnownBytes.{Appends, Keeps}
-use Rattle.std.specs.{declared.string.String.String, declared.alloc.Global.Global, declared.dyn_box.DynBox.DynBox}
-use Rattle.ompt_cli.specs.Names.{Record, Cause, WordsFault, Generating, Request, Settings, ReadCommand, AreReadAs}
-use Rattle.ompt_cli.specs.Names.{AskForText, HoldBoth, IsTextOrMemory, IsUsageOrMemory, AskInForm, InForm, ReadInForm}
-use Rattle.ompt_cli.specs.Names.{own_settings, HistoryFile, WritesHistory}
+use Rattle.std.{proofs.lemmas.List.append-nil, specs.Io.KnownBytes.Appends, specs.Io.KnownBytes.Keeps, specs.declared.string.String.String, specs.declared.alloc.Global.Global, specs.declared.dyn_box.DynBox.DynBox}
 use Rattle.omp_model.specs.declared.cause.Cause.TheVariants as causes
 use Rattle.ompt_words.specs.declared.fault.WordsFault.TheVariants as fault
 use Rattle.ompt_words.specs.declared.settings.Request.TheVariants as request
 use Rattle.ompt_words.specs.declared.settings.ReadCommand.TheVariants as reads
-use Rattle.run_laws.proofs.Ended.{whole-ended}
 use Rattle.ompt_cli.specs.declared.end.End.TheVariants as end
-use Rattle.ompt_cli.specs.Commands.{CountsFaults, EndsAs, EndsRun, HasWritten, IsBeforeRun, IsReading, IsShowing}
-use Rattle.ompt_cli.specs.Commands.{IsUnread, MayRefuse, MayRun, out_of, program_in, run_of, settings_in, text_in}
-use Rattle.ompt_cli.specs.Top.{CarriesOut, FollowsWords, IsRunOf, StaysUntouched}
+use Rattle.run_laws.proofs.Ended.{whole-ended}
+use Rattle.ompt_cli.specs.Names.{Record, Cause, WordsFault, Generating, Request, Settings, ReadCommand, AreReadAs, AskForText, HoldBoth, IsTextOrMemory, IsUsageOrMemory, AskInForm, InForm, ReadInForm, own_settings, HistoryFile, WritesHistory}
+use Rattle.ompt_cli.specs.Commands.{CountsFaults, EndsAs, EndsRun, HasWritten, IsBeforeRun, IsReading, IsShowing, IsUnread, MayRefuse, MayRun, out_of, program_in, run_of, settings_in, text_in}
 use Rattle.ompt_cli.specs.Words.{AreFaulty, AreInRange, AreTakenAs, AskFor, AskForRun, AskToRead}
-use Rattle.ompt_cli.specs.{declared.end.End.End, declared.job.Job.Job, declared.report.Report.Report}
-use Rattle.ompt_cli.specs.{Histories.Certifies, Histories.MayCertify, Loading.EndsFor, Loading.IsLoaded}
-use Rattle.ompt_cli.specs.{Reports.Reports, Text.IsProgram, Text.IsRefused, Text.Spells, Text.text_for, Traces.HasRead}
-use Rattle.ompt_cli.proofs.Telling.{before-run, ends-may, few-threads, may-run, same-settings, shows-faults}
-use Rattle.ompt_cli.proofs.Telling.{some-threads}
-use Rattle.ompt_cli.proofs.{Finishing.finished, Finishing.nested-run, Reading.loaded-unrefused, Filing.ends-found}
-use Rattle.ompt_cli.proofs.{Filing.filed-text, Written.trace_unbroken, Written.trace_unrefused}
+use Rattle.ompt_cli.proofs.Telling.{before-run, ends-may, few-threads, may-run, same-settings, shows-faults, some-threads}
+use Rattle.ompt_cli.{specs.Top.CarriesOut, specs.Top.FollowsWords, specs.Top.IsRunOf, specs.Top.StaysUntouched, specs.declared.end.End.End, specs.declared.job.Job.Job, specs.declared.report.Report.Report, specs.Histories.Certifies, specs.Histories.MayCertify, specs.Loading.EndsFor, specs.Loading.IsLoaded, specs.Reports.Reports, specs.Text.IsProgram, specs.Text.IsRefused, specs.Text.Spells, specs.Text.text_for}
+use Rattle.ompt_cli.{specs.Traces.HasRead, proofs.Finishing.finished, proofs.Finishing.nested-run, proofs.Reading.loaded-unrefused, proofs.Filing.ends-found, proofs.Filing.filed-text, proofs.Written.trace_unbroken, proofs.Written.trace_unrefused}
 
 -- nothing is appended where nothing changed, and nothing is written
 nothing-appended : (held : Option (List ℕ)) → Appends held held []

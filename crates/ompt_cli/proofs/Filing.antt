@@ -1,16 +1,13 @@
 -- What is written of a run: a trace, or a history file, which is a certificate of the run.
 use Rattle.std.proofs.Common.{◌≡◌, ◌≢◌, ◌≤◌, ◌⊎◌, inl, inr, ℕ, List, length, Option, Some, None, refl, sym, ap, subst, ◌∙◌, arith}
-use Rattle.ompt_cli.specs.Names.{Cause, Entry, Legal, records_of, Run, EventRecord, FitsCause, AreShared}
-use Rattle.ompt_cli.specs.Names.{history_fields, history_spelling, FitsFile, Command, Running, Settings}
 use Rattle.omp_model.specs.declared.cause.Cause.TheVariants as causes
 use Rattle.ompt_words.specs.declared.settings.RunOutput.TheVariants as output
+use Rattle.ompt_cli.specs.declared.end.End.TheVariants as end
 use Rattle.run_trace.{proofs.Heard.few-records, specs.TraceOf.detail_of, specs.TraceOf.status_of}
 use Rattle.history_file.proofs.OfRuns.{files_of_runs}
-use Rattle.ompt_cli.specs.declared.end.End.TheVariants as end
+use Rattle.ompt_cli.specs.Names.{Cause, Entry, Legal, records_of, Run, EventRecord, FitsCause, AreShared, history_fields, history_spelling, FitsFile, Command, Running, Settings}
 use Rattle.ompt_cli.specs.Commands.{EndsAs, IsSharedFew, run_of, run_text, text_in, unless_memory, written_by}
-use Rattle.ompt_cli.specs.{declared.end.End.End, declared.report.Report.Report, Histories.file_of_report}
-use Rattle.ompt_cli.specs.{declared.job.Job.Job, Reports.HasCertificate, Reports.Observes}
-use Rattle.ompt_cli.proofs.Telling.{few-threads, some-threads}
+use Rattle.ompt_cli.{specs.declared.end.End.End, specs.declared.report.Report.Report, specs.Histories.file_of_report, specs.declared.job.Job.Job, specs.Reports.HasCertificate, specs.Reports.Observes, proofs.Telling.few-threads, proofs.Telling.some-threads}
 
 -- something is written of each run that found memory
 pub unless-found : (of : Cause) (lines : List ℕ) → of ≢ causes.Memory → unless_memory of lines ≡ lines

@@ -1,21 +1,16 @@
 -- How a run has ended: whole exactly at Done or Returned, and with no thread inside a callback. And that the trace of a run of a program that a text spells is nested.
-use Rattle.std.proofs.Common.{◌≡◌, ◌≢◌, ◌<◌, ◌≤◌, ℕ, zero, suc, ℤ, pos, negsuc, ◌&&◌, Bool, true, false, if◌then◌else◌, List, [], ◌∷◌, length, Option, Some, None, is_none, slice_index_or, refl, sym, ap, subst, ◌∙◌, ◌↔◌, arith}
+use Rattle.std.proofs.Common.{◌≡◌, ◌≢◌, ◌<◌, ◌≤◌, ℕ, zero, suc, ℤ, pos, ◌&&◌, Bool, true, false, if◌then◌else◌, List, [], ◌∷◌, length, Option, Some, None, is_none, slice_index_or, refl, sym, ap, subst, ◌∙◌, ◌↔◌, arith}
 use Rattle.std.specs.List.{list_all}
-use Rattle.ompt_cli.specs.Names.{PROFILE_MASK, Record, Cause, Callback, Halt, Entry, Run, State, cause_of, threads_over}
-use Rattle.ompt_cli.specs.Names.{main_returned, Legal, after, trace_of}
 use Rattle.omp_model.specs.declared.cause.Cause.TheVariants as causes
 use Rattle.c_syntax.specs.language.Words.{words_of}
 use Rattle.c_check.proofs.Earliest.{none-broken}
 use Rattle.c_model.proofs.GrammarTrees.{spelled_is_formed}
-use Rattle.omp_model.specs.declared.event.Halt.TheVariants.{Trap, Limit}
-use Rattle.omp_model.specs.Cause.{cause_by_halt, cause_of_halt, cause_of_value, cause_of_whole, is_stuck, main_value}
-use Rattle.omp_model.specs.Cause.{none_pending, whole_value}
-use Rattle.omp_model.proofs.MadeRuns.{made-after}
+use Rattle.omp_model.specs.Cause.{cause_by_halt, cause_of_halt, cause_of_value, cause_of_whole, is_stuck, main_value, none_pending, whole_value}
+use Rattle.omp_model.{specs.declared.event.Halt.TheVariants.Trap, specs.declared.event.Halt.TheVariants.Limit, proofs.MadeRuns.made-after}
 use Rattle.nested_runs.proofs.Nesting.{nested}
-use Rattle.team_run.specs.{Serving.RunsParts, Unheard.IsUnheard, Unheard.LeftAt}
-use Rattle.team_run.proofs.Visiting.{all_none-at}
-use Rattle.ompt_cli.specs.{Runs.AreOutside, Runs.IsReturn, Runs.IsWhole, Text.Spells, Traces.IsNested}
-use Rattle.ompt_cli.proofs.Halting.{not_halted}
+use Rattle.team_run.{specs.Serving.RunsParts, specs.Unheard.IsUnheard, specs.Unheard.LeftAt, proofs.Visiting.all_none-at}
+use Rattle.ompt_cli.specs.Names.{PROFILE_MASK, Record, Cause, Callback, Halt, Entry, Run, State, cause_of, threads_over, main_returned, Legal, after, trace_of}
+use Rattle.ompt_cli.{specs.Runs.AreOutside, specs.Runs.IsReturn, specs.Runs.IsWhole, specs.Text.Spells, specs.Traces.IsNested, proofs.Halting.not_halted}
 
 -- what main returned is told as a return
 returns : (value : ℤ) → IsReturn (cause_of_value value)

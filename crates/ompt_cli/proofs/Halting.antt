@@ -1,23 +1,18 @@
 -- A trap or a limit leaves a thread that hasn't ended: the one that met it is inside no callback and has no turn any more, so nothing takes it further.
 use Rattle.std.proofs.Common.{◌≡◌, ℕ, zero, suc, ◌+◌, ◌&&◌, Bool, true, false, IsTrue, if◌then◌else◌, List, [], ◌∷◌, Option, Some, None, is_none, slice_index_or, refl, sym, ap, subst, ◌∙◌, true≢false}
 use Rattle.std.{proofs.lemmas.Bool.and_parts, specs.List.list_all}
-use Rattle.ompt_cli.specs.Names.{Callback, Halt, Entry, threads_over, Legal, after, Run, State, pending_at}
 use Rattle.c_model.specs.declared.point.SyncStage.TheVariants as sync_stage
 use Rattle.omp_model.specs.declared.event.Event.TheVariants as event
 use Rattle.omp_model.specs.declared.event.Outcome.TheVariants as outcome
 use Rattle.omp_model.specs.declared.parts.ThreadStage.TheVariants as stage
 use Rattle.ompt_calls.specs.declared.snapshot.Target.{Target}
-use Rattle.omp_model.specs.declared.history.What.TheVariants.{Go, Put, Back}
-use Rattle.omp_model.specs.Changes.{with_invitations, stage_once_made, with_members_invited, with_invitation}
-use Rattle.omp_model.specs.Gates.{arrival, arrival_at, is_out}
 use Rattle.omp_model.specs.Legal.{AllowsFrom, after_from, back_from, does, entered, may, put_from}
 use Rattle.omp_model.specs.State.{Thread, World, first, region_at, thread_at, unmade, with_thread}
-use Rattle.omp_model.specs.{declared.event.Event.Event, declared.event.Outcome.Outcome, declared.history.What.What}
-use Rattle.omp_model.specs.{declared.parts.ThreadStage.ThreadStage, Members.is_outermost, Returning.after_created}
-use Rattle.omp_model.specs.{Returning.at_back, Turn.enabled, Turn.goes_on, Turn.turn}
-use Rattle.omp_model.proofs.AlikeWorlds.{alike-stored, quiet-turn}
 use Rattle.omp_model.proofs.Turns.{halts-pending, turn-goes, turn-happens, turn-not_idle, turn-quiet}
-use Rattle.omp_model.proofs.{Alike.QuietWorld, Later.at-set, MadeWords.at-summoned, Turning.Turned}
+use Rattle.omp_model.{specs.declared.history.What.TheVariants.Go, specs.declared.history.What.TheVariants.Put, specs.declared.history.What.TheVariants.Back, specs.Changes.with_invitations, specs.Changes.stage_once_made, specs.Changes.with_members_invited, specs.Changes.with_invitation, specs.Gates.arrival, specs.Gates.arrival_at, specs.Gates.is_out, specs.declared.event.Event.Event}
+use Rattle.omp_model.{specs.declared.event.Outcome.Outcome, specs.declared.history.What.What, specs.declared.parts.ThreadStage.ThreadStage, specs.Members.is_outermost, specs.Returning.after_created, specs.Returning.at_back, specs.Turn.enabled, specs.Turn.goes_on, specs.Turn.turn, proofs.AlikeWorlds.alike-stored, proofs.AlikeWorlds.quiet-turn, proofs.Alike.QuietWorld, proofs.Later.at-set, proofs.MadeWords.at-summoned}
+use Rattle.omp_model.{proofs.Turning.Turned}
+use Rattle.ompt_cli.specs.Names.{Callback, Halt, Entry, threads_over, Legal, after, Run, State, pending_at}
 
 -- the thread was made and hasn't ended
 abbrev IsIn : Thread → Type 0

@@ -1,9 +1,9 @@
 -- Guests are handed out to threads, and taken back.
-use Rattle.std.proofs.Common.{◌≡◌, ℕ, zero, suc, ◌<◌, ◌≤◌, ◌↔◌, Bool, List, [], ◌∷◌, ◌++◌, length, slice_index_or, refl, sym, ap, subst, ◌∙◌, arith}
+use Rattle.std.proofs.Common.{◌≡◌, ℕ, zero, suc, ◌<◌, ◌≤◌, ◌↔◌, Bool, List, [], ◌∷◌, ◌++◌, length, slice_index_or, refl, sym, ap, subst, arith}
 use Rattle.std.proofs.lemmas.List.{nil_from_length}
 use Rattle.tool_api.specs.declared.handed.Handed.TheVariants as held
 use Rattle.tool_api.specs.{Record.QuietFor, declared.quiet.Quiet.Quiet}
-use Rattle.team_run.specs.{Serving.AreSame, Serving.RunsParts, Serving.called_for, Serving.record_of_first, Standing.AreSilent}
+use Rattle.team_run.specs.Serving.{AreSame, RunsParts, called_for, record_of_first}
 use Rattle.ompt_cli.specs.Names.{Record, StartedWith, StoresNothing, HandedFor, SameHanded, Handed, Cause, Entry, Run, heard_of}
 use Rattle.ompt_cli.{specs.Guests.GuestsServe, specs.Guests.HandOut, specs.Guests.guests_of, proofs.Calls.is-at, proofs.Calls.part-at, proofs.Calls.record_at, proofs.Keeping.nothing_called, proofs.Keeping.silent-each}
 

@@ -1,19 +1,13 @@
 -- The parts of a run that keep what they are told: what they kept is what is recorded of the run.
-use Rattle.std.proofs.Common.{◌≡◌, ℕ, ◌+◌, ◌<◌, ◌≤◌, Bool, List, [], ◌∷◌, ◌++◌, map, length, replicate, slice_index_or, refl, sym, ap, subst, ◌∙◌, zero, suc, arith}
-use Rattle.std.specs.List.{range_with_len}
+use Rattle.std.proofs.Common.{◌≡◌, ℕ, ◌+◌, ◌<◌, ◌≤◌, Bool, List, [], ◌∷◌, map, length, replicate, slice_index_or, refl, sym, ap, subst, ◌∙◌, suc, arith}
 use Rattle.std.proofs.lemmas.List.{get_or-map, get_or-replicate, length-map, length-replicate, same_lists}
-use Rattle.std.proofs.lemmas.List.FromFn.{get_or-map-range_with_len, length-map-range_with_len}
-use Rattle.ompt_cli.specs.Names.{Item, Record, StartedWith, initialized, StoresNothing, PROFILE_MASK, KeeperFor}
-use Rattle.ompt_cli.specs.Names.{AreKept, AreShared, Cause, Entry, EventRecord, Run, heard, heard_of, Legal, record_of}
-use Rattle.ompt_cli.specs.Names.{records_of, SEQ_LIMIT, mask_of}
+use Rattle.std.{specs.List.range_with_len, proofs.lemmas.List.FromFn.get_or-map-range_with_len, proofs.lemmas.List.FromFn.length-map-range_with_len}
 use Rattle.tool_report.specs.Order.{AreFrom, AreRising}
 use Rattle.omp_model.proofs.Recording.{records-by_thread}
 use Rattle.run_trace.proofs.Heard.{AreBelow, places-below}
-use Rattle.team_run.specs.Serving.{RunsParts, served}
-use Rattle.team_run.specs.Standing.{AreSilent, HearsOwn, HearsSilent}
-use Rattle.ompt_cli.specs.Reports.{HasKept, HasObserved}
-use Rattle.ompt_cli.specs.{declared.observing.Observed.Observed, declared.job.Job.Job, Commands.run_of}
-use Rattle.ompt_cli.proofs.{Calls.is-at, Calls.part-at, Calls.record_at, Telling.threads-are}
+use Rattle.team_run.specs.{Serving.RunsParts, Standing.AreSilent, Standing.HearsOwn, Standing.HearsSilent}
+use Rattle.ompt_cli.specs.Names.{Item, Record, StartedWith, StoresNothing, PROFILE_MASK, KeeperFor, AreKept, AreShared, Cause, Entry, EventRecord, Run, heard, heard_of, Legal, record_of, records_of, SEQ_LIMIT, mask_of}
+use Rattle.ompt_cli.{specs.Reports.HasKept, specs.Reports.HasObserved, specs.declared.observing.Observed.Observed, specs.declared.job.Job.Job, specs.Commands.run_of, proofs.Calls.is-at, proofs.Calls.part-at, proofs.Calls.record_at, proofs.Telling.threads-are}
 
 -- positions from one on are from each smaller one on
 from-less : (least more : ℕ) (events : List EventRecord) → least ≤ more → AreFrom more events → AreFrom least events

@@ -1,20 +1,13 @@
 -- A text spells a program, or is refused for one thing, and not both.
 use Rattle.std.proofs.Common.{◌≡◌, ℕ, ◌≤◌, ◌⊎◌, Bool, true, false, ltb, inl, inr, List, [], ◌∷◌, ◌++◌, append-nil, length, length-append, Option, Some, None, IfSome, IsSomeAnd, Ok, refl, sym, ap, subst, ◌∙◌, arith}
-use Rattle.std.specs.Io.KnownBytes.{Consumes, IsAtEnd}
-use Rattle.std.proofs.lemmas.Bool.{ltb-false, ltb-true}
-use Rattle.ompt_cli.specs.Names.{ConsumesMore, Spot, Token, TokenFault, Reads, beginning, EndsIn, main_of, Tree}
-use Rattle.ompt_cli.specs.Names.{HasSyntaxFault, IsTreeOf, TreeView, root_tree, rule_fault_in, CheckFault}
-use Rattle.c_tokens.specs.workings.Tokens.{tokens_of}
-use Rattle.c_syntax.specs.declared.fault.SyntaxFault.{SyntaxFault}
-use Rattle.c_tokens.proofs.{Ending.ends-one, Ending.read-or-ended, Ending.reads-no_end, Law.reads-one, Spans.tokens-end}
+use Rattle.std.{specs.Io.KnownBytes.Consumes, specs.Io.KnownBytes.IsAtEnd, proofs.lemmas.Bool.ltb-false, proofs.lemmas.Bool.ltb-true}
+use Rattle.c_tokens.{specs.workings.Tokens.tokens_of, proofs.Ending.ends-one, proofs.Ending.read-or-ended, proofs.Ending.reads-no_end, proofs.Law.reads-one, proofs.Spans.tokens-end}
+use Rattle.c_syntax.{specs.declared.fault.SyntaxFault.SyntaxFault, proofs.OneAnswer.fault_one, proofs.OneAnswer.not_both, proofs.OneAnswer.tree_one, proofs.OneAnswer.tree_or_fault}
 use Rattle.c_check.specs.Checked.{rule_fault}
-use Rattle.c_syntax.proofs.OneAnswer.{fault_one, not_both, tree_one, tree_or_fault}
 use Rattle.numbered_runs.specs.Alike.{AreAlike}
-use Rattle.ompt_cli.specs.declared.end.Refusal.TheVariants.{Tokens, Syntax, Rule, TooLong}
-use Rattle.ompt_cli.specs.declared.end.End.TheVariants.{Memory, Refused}
-use Rattle.ompt_cli.specs.Loading.{EndsFor, IsLoaded}
+use Rattle.ompt_cli.specs.Names.{ConsumesMore, Spot, Token, TokenFault, Reads, beginning, EndsIn, main_of, Tree, HasSyntaxFault, IsTreeOf, TreeView, root_tree, rule_fault_in, CheckFault}
 use Rattle.ompt_cli.specs.Text.{HasTree, IsProgram, IsReadAs, IsRefused, Spells, end_at, end_of, rule_broken}
-use Rattle.ompt_cli.specs.{declared.end.Refusal.Refusal, declared.end.End.End, declared.job.Loaded.Loaded}
+use Rattle.ompt_cli.specs.{declared.end.Refusal.TheVariants.Tokens, declared.end.Refusal.TheVariants.Syntax, declared.end.Refusal.TheVariants.Rule, declared.end.Refusal.TheVariants.TooLong, declared.end.End.TheVariants.Memory, declared.end.End.TheVariants.Refused, Loading.EndsFor, Loading.IsLoaded, declared.end.Refusal.Refusal, declared.end.End.End, declared.job.Loaded.Loaded}
 
 module _ (text : List ℕ) where
   -- a text has one list of tokens, with one tree

@@ -2,22 +2,14 @@
 use Rattle.std.proofs.Common.{◌≡◌, ◌⊎◌, ℕ, List, [], ◌∷◌, ◌++◌, map, Option, Some, None, IsSomeAnd, Result, Ok, Err, inl, inr, refl, ap, subst, sym, ◌∙◌, arith}
 use Rattle.std.specs.Prelude.{IfErr, IfOk}
 use Rattle.std.specs.Io.KnownBytes.{Appends, Keeps}
-use Rattle.ompt_cli.specs.Names.{AppendsFront, ConsumesMore, TreeView, Item, line_text, lines_of, record_of, Refusal}
-use Rattle.ompt_cli.specs.Names.{Trace, Writes, Breach, HasChecked, Nested, ReadCommand, Check, Migrate, Rerun, Show}
-use Rattle.ompt_cli.specs.Names.{Tasks, HasReadNested, IsForestText, HistoryFile, IsCertificate, run_of_file}
-use Rattle.ompt_cli.specs.Names.{WritesHistory}
 use Rattle.trace_check.specs.declared.checked.Checked.TheVariants as checks
-use Rattle.trace_format.specs.{Inputs.IsRefusedInput, Refusing.IsTruncated}
-use Rattle.trace_format.proofs.{Unique.one_spelling, Unrefused.never_refused_trace}
+use Rattle.trace_format.{specs.Inputs.IsRefusedInput, specs.Refusing.IsTruncated, proofs.Unique.one_spelling, proofs.Unrefused.never_refused_trace}
 use Rattle.trace_check.specs.Nested.{Broken as BreaksRule}
-use Rattle.history_file.specs.{declared.file.TheConstants.HISTORY_LIMIT, Verdicts.heard_call}
-use Rattle.history_file.proofs.Lengths.{written_short}
+use Rattle.history_file.{specs.declared.file.TheConstants.HISTORY_LIMIT, specs.Verdicts.heard_call, proofs.Lengths.written_short}
 use Rattle.numbered_runs.proofs.Histories.{same_cause, same_legal}
+use Rattle.ompt_cli.specs.Names.{AppendsFront, ConsumesMore, TreeView, Item, line_text, lines_of, record_of, Refusal, Trace, Writes, Breach, HasChecked, Nested, ReadCommand, Check, Migrate, Rerun, Show, Tasks, HasReadNested, IsForestText, HistoryFile, IsCertificate, run_of_file, WritesHistory}
 use Rattle.ompt_cli.specs.declared.end.End.TheVariants.{Broken, Memory, Read, TraceRefused, WriteFault}
-use Rattle.ompt_cli.specs.Histories.{HasRerun, IsCertified, heard_text, lines_of_calls}
-use Rattle.ompt_cli.specs.Traces.{HasRead, HasTasks, IsNested}
-use Rattle.ompt_cli.specs.{declared.end.End.End, Commands.HasWritten, Text.Spells}
-use Rattle.ompt_cli.proofs.Reading.{longer, programs-alike}
+use Rattle.ompt_cli.{specs.Histories.HasRerun, specs.Histories.IsCertified, specs.Histories.heard_text, specs.Histories.lines_of_calls, specs.Traces.HasRead, specs.Traces.HasTasks, specs.Traces.IsNested, specs.declared.end.End.End, specs.Commands.HasWritten, specs.Text.Spells, proofs.Reading.longer, proofs.Reading.programs-alike}
 
 -- what is so of each of the three ends with what is written at it
 by-end : (Has : End → Type 0) (text : List ℕ) (held after : Option (List ℕ)) (told : End) → (told ≡ Read) ⊎ ((told ≡ WriteFault) ⊎ (told ≡ Memory)) → HasWritten told text held after

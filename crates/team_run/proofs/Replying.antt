@@ -1,8 +1,7 @@
 -- What the parts stand for once the part of a thread was called.
 use Rattle.std.proofs.Common.{◌≡◌, ℕ, ◌<◌, List, length, slice_index_or, slice_set, sym, subst, ◌∙◌, inl, inr}
 use Rattle.std.proofs.lemmas.{List.get_or_default, List.get_or-set_same, List.get_or-set_other, Bool.Decides.eqb_tells}
-use Rattle.team_run.specs.Names.{Item, Record, told}
-use Rattle.team_run.specs.Serving.{AreSame, Becomes, told_on}
+use Rattle.team_run.specs.{Names.Item, Names.Record, Names.told, Serving.AreSame, Serving.Becomes, Serving.told_on}
 
 module _ {P : Type 0} (stands_for : P → Record → Type 0) (parts : List P) (t : ℕ) (found part : P) (is : found ≡ slice_index_or parts t found) (within : t < length parts) where
   -- the part that was found is the thread's, whatever stands for none

@@ -1,5 +1,5 @@
 -- What parts stand for after what their threads hear.
-use Rattle.std.proofs.Common.{◌≡◌, ℕ, ◌<◌, ◌==◌, Bool, true, false, if◌then◌else◌, cond, List, [], ◌∷◌, ◌++◌, filter, length, take, drop, slice_index_or, Option, None, refl, sym, ap, subst, ◌∙◌, append_assoc, append-nil, eq-eqb, arith, inl, inr}
+use Rattle.std.proofs.Common.{◌≡◌, ℕ, ◌<◌, ◌==◌, Bool, true, false, if◌then◌else◌, cond, List, [], ◌∷◌, ◌++◌, filter, length, take, drop, slice_index_or, Option, None, refl, sym, ap, subst, ◌∙◌, append_assoc, append-nil, eq-eqb, arith}
 use Rattle.std.proofs.lemmas.{List.take_all, List.drop_all, List.Elements.filter-append, Bool.ne_eqb}
 use Rattle.team_run.specs.Names.{Item, Record, initialized, told, AreAlways, Entry, Run, heard, heard_of, mask_of}
 use Rattle.team_run.specs.Serving.{AreSame, Becomes, ChangesFirst, called_for, served, Serves, OnlyUnheard, told_on, finished_by}

@@ -1,16 +1,19 @@
 -- A serial run after one more visit, and at its end.
-use Rattle.std.proofs.Common.{◌≡◌, ◌≢◌, ℕ, ℤ, zero, suc, ◌+◌, ◌<◌, ◌≤◌, Bool, true, false, List, [], ◌∷◌, ◌++◌, length, length-append, replicate, slice_set, slice_index_or, Option, Some, None, IsSome, is_none, refl, sym, ap, subst, ◌∙◌, arith, append-nil, append_assoc, Result, Ok, Err, OnOk, OnErr}
+use Rattle.std.proofs.Common.{◌≡◌, ◌≢◌, ℕ, ℤ, zero, suc, ◌+◌, ◌<◌, ◌≤◌, Bool, true, List, [], ◌∷◌, ◌++◌, length, length-append, replicate, slice_set, slice_index_or, Option, Some, None, IsSome, is_none, refl, sym, ap, subst, ◌∙◌, arith, append-nil, append_assoc, Result, Ok, Err, OnOk, OnErr}
 use Rattle.std.{specs.List.list_all, proofs.lemmas.Bool.true≢false, proofs.lemmas.Bool.and_from, proofs.lemmas.Bool.and_parts, proofs.lemmas.List.set-set}
 use Rattle.omp_model.specs.declared.cause.Cause.TheVariants as cause
-use Rattle.omp_model.specs.{declared.event.Outcome.TheVariants.Idle, declared.event.Outcome.TheVariants.Quiet, declared.event.Outcome.TheVariants.Happens, declared.event.Outcome.TheVariants.Halts, declared.event.Halt.Halt, Cause.whole_value, Cause.is_stuck, Cause.cause_of_whole, Cause.cause_by_halt, Storing.put_all, Storing.MayStore, Legal.put, Running.HasRun, Serial.enabled_among}
-use Rattle.omp_model.proofs.{Turns.Leaves, Turns.leaves-turn, Turns.turn-pending, Turns.turns-rise, Turns.back-turns, SerialLaws.serial-whole, Replies.may-store}
+use Rattle.omp_model.proofs.Turns.{Leaves, leaves-turn, turn-pending, turns-rise, back-turns}
 use Rattle.omp_model.proofs.Recording.{HasRun-start, HasRun-after, HasRun-alone, HasRun-event, HasRun-serial, HasRun-whole, HasRun-pending, heard-alone, heard-event, heard-pending, event_at, first_enabled-below, first_enabled-enabled, first_enabled-none, put_all-turns, StoresNothing-append}
+use Rattle.omp_model.{specs.declared.event.Outcome.TheVariants.Idle, specs.declared.event.Outcome.TheVariants.Quiet, specs.declared.event.Outcome.TheVariants.Happens, specs.declared.event.Outcome.TheVariants.Halts, specs.declared.event.Halt.Halt, specs.Cause.whole_value, specs.Cause.is_stuck, specs.Cause.cause_of_whole, specs.Cause.cause_by_halt, specs.Storing.put_all, specs.Storing.MayStore, specs.Legal.put}
+use Rattle.omp_model.{specs.Running.HasRun, specs.Serial.enabled_among, proofs.SerialLaws.serial-whole, proofs.Replies.may-store}
 use Rattle.ompt_calls.specs.{Snapshot.target_of, Snapshot.stored, Snapshot.stored_of, declared.snapshot.Target.Target, declared.reply.Store.Store}
 use Rattle.omp_machine.proofs.{Storing.Inside, Storing.inside-put, Telling.IsTold, Telling.IsUntold}
 use Rattle.step_book.proofs.{Telling.HasUntold, Telling.IsAlone, Visiting.inside-told}
-use Rattle.team_run.specs.Names.{Call, Snapshot, Item, is_registered, Reply, Stored, stores_of, Entry, Callback, Cause, Event, Outcome, Run, State, first, pending_at, call_of, callback_of, snap_of, turn, called, after, put_from, back_from, back, heard, first_enabled, inside_after, StoresNothing, go_at, event_reply, none_pending, cause_of, BookView, state_of, with_entries, turn_visit, Record}
-use Rattle.team_run.specs.{Program.HaveServed, Serving.AreSame, Serving.Serves, Serving.ServesTo, Serving.OnlyUnheard, Serving.Answers, Standing.AreSilent, Standing.HearsOwn, Standing.HearsSilent, Standing.StandsAt, Standing.StopsAt, Unheard.IsUnheard, Unheard.is_of}
+use Rattle.team_run.specs.Names.{Call, Snapshot, Item, Reply, Stored, stores_of, Entry, Callback, Cause, Event, Outcome, Run, State, first, pending_at, call_of, snap_of, turn, called, after, put_from, back_from, back, heard, first_enabled, inside_after, StoresNothing, go_at, event_reply, none_pending, cause_of, BookView, state_of, with_entries, turn_visit, Record}
+use Rattle.team_run.specs.Serving.{AreSame, Serves, ServesTo, OnlyUnheard, Answers}
+use Rattle.team_run.specs.Standing.{AreSilent, HearsOwn, HearsSilent, StandsAt, StopsAt}
 use Rattle.team_run.proofs.Serving.{serves-told, serves-unheard, served-nil, hears-front, item-silent, own-told, own-unheard, heard_of-same}
+use Rattle.team_run.specs.{Program.HaveServed, Unheard.IsUnheard, Unheard.is_of}
 
 abbrev pub all_none : List (Option Callback) → Bool
 all_none pending = list_all (λ (callback : Option Callback). is_none callback) pending

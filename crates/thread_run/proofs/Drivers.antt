@@ -7,7 +7,8 @@ use Rattle.omp_model.proofs.MadeRuns.{at-replicate}
 use Rattle.step_book.{specs.Rule.NoneBy, specs.Sharing.AreOwn, specs.Sharing.IsClosed, specs.Sharing.any_ended, specs.Sharing.fresh_pass, proofs.Others.entries-append, proofs.Others.holds-others, proofs.Others.own-back}
 use Rattle.team_run.specs.Names.{Record, Cause, Callback, Entry, Run, first, pending_at, cause_of, heard_of, after, Closed, NotBy, entries_of, PassView}
 use Rattle.team_run.{specs.Serving.called_for, specs.Unheard.LeftAt, specs.Standing.HearsOwn, proofs.Serving.served-nil}
-use Rattle.thread_run.{specs.Driving.IsDriven, specs.Drivers.AreDrivers, specs.Drivers.AreFor, specs.Drivers.AreKept, specs.Drivers.HasServed, specs.Drivers.IsDriver, proofs.Driving.heard-others, proofs.Driving.left-others}
+use Rattle.thread_run.specs.Drivers.{AreDrivers, AreFor, AreKept, HasServed, IsDriver}
+use Rattle.thread_run.{specs.Driving.IsDriven, proofs.Driving.heard-others, proofs.Driving.left-others}
 
 -- A list that a loop has gone through up to one of its items.
 module _ {L : Type 0} (all yielded behind rest : List L) (one : L) (whole : yielded ++ behind ≡ all) (next : behind ≡ one ∷ rest) where

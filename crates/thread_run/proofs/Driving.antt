@@ -4,11 +4,14 @@ use Rattle.std.{specs.Result.IsOk, proofs.lemmas.Bool.true≢false, proofs.lemma
 use Rattle.omp_model.specs.declared.cause.Cause.TheVariants as causes
 use Rattle.omp_model.specs.declared.event.Outcome.TheVariants as outcome
 use Rattle.omp_model.{specs.Cause.cause_of, specs.Heard.has_back, specs.Legal.AllowsFrom, specs.Storing.back_at, specs.Storing.puts_at, proofs.Turns.leaves-turn, proofs.Turns.turn-goes}
-use Rattle.step_book.specs.{declared.hold.Hold.Hold, declared.step.Step.TheVariants.Quiet, declared.step.Step.TheVariants.NotYet, declared.step.Step.TheVariants.Ended, Sharing.AnswersThen, Sharing.VisitsAfterOthers, Sharing.IsHold, Steps.hold_by, Visit.Visit, Visit.idle_by, Visit.idle_step, Visit.is_turn, Visit.visit}
-use Rattle.step_book.proofs.{Histories.after-append, Others.entries-append, Others.entries-others, Others.not_by-append, Others.owes-still, Telling.ended-step, Telling.not_yet-step, Telling.quiet-step, Telling.told-step, Visiting.visit-idle, Visiting.visit-turn}
-use Rattle.team_run.specs.Names.{Call, Reply, Snapshot, Item, item_of, is_registered, Stored, stores_of, Record, one_unheard, told, Cause, Callback, Event, Entry, Run, State, first, pending_at, call_of, callback_of, heard_of, Legal, after, after_from, back, back_from, entered, inside_after, snap_of, event_reply, go_at, turn, Step, Told, NotBy, Owes, BookView, state_of, entries_of, AddsHold, PassView, book_after, turn_visit}
+use Rattle.step_book.specs.Visit.{Visit, idle_by, idle_step, is_turn, visit}
+use Rattle.step_book.{specs.declared.hold.Hold.Hold, specs.declared.step.Step.TheVariants.Quiet, specs.declared.step.Step.TheVariants.NotYet, specs.declared.step.Step.TheVariants.Ended, specs.Sharing.AnswersThen, specs.Sharing.VisitsAfterOthers, specs.Sharing.IsHold, specs.Steps.hold_by, proofs.Histories.after-append, proofs.Others.entries-append, proofs.Others.entries-others, proofs.Others.not_by-append}
+use Rattle.step_book.{proofs.Others.owes-still, proofs.Telling.ended-step, proofs.Telling.not_yet-step, proofs.Telling.quiet-step, proofs.Telling.told-step, proofs.Visiting.visit-idle, proofs.Visiting.visit-turn}
+use Rattle.team_run.specs.Names.{Call, Reply, Snapshot, Item, item_of, is_registered, Stored, stores_of, Record, one_unheard, told, Cause, Callback, Event, Entry, Run, State, first, pending_at, call_of, callback_of, heard_of, Legal, after, after_from, back, back_from, entered, inside_after, snap_of, event_reply, go_at, turn, Step, Told, NotBy, Owes, BookView, state_of, entries_of, AddsHold, PassView, book_after}
+use Rattle.team_run.specs.Names.{turn_visit}
 use Rattle.team_run.{specs.Serving.served, specs.Unheard.LeftAt, proofs.Visiting.same-pending}
-use Rattle.thread_run.{specs.Driving.HasCome, specs.Driving.HasStep, specs.Driving.IsDriven, specs.Driving.IsInside, proofs.Hearing.answered, proofs.Hearing.back-append, proofs.Hearing.back-others, proofs.Hearing.heard-split, proofs.Hearing.heard_on, proofs.Hearing.item_with, proofs.Hearing.more-without}
+use Rattle.thread_run.proofs.Hearing.{answered, back-append, back-others, heard-split, heard_on, more-without}
+use Rattle.thread_run.specs.Driving.{HasCome, HasStep, IsDriven, IsInside}
 
 -- Entries that leave a thread as it was.
 

@@ -1,9 +1,9 @@
 -- What a thread hears of a history in which entries of others stand between its own.
-use Rattle.std.proofs.Common.{◌≡◌, ◌≢◌, ℕ, ◌+◌, ◌<◌, ◌==◌, ◌&&◌, ◌||◌, Bool, true, false, if◌then◌else◌, List, [], ◌∷◌, ◌++◌, length, Option, Some, None, IsSome, is_some, slice_index_or, slice_set, get_or-set_same, refl, sym, ap, subst, ◌∙◌, append_assoc, append-nil, eq-eqb, arith, inl, inr}
+use Rattle.std.proofs.Common.{◌≡◌, ◌≢◌, ℕ, ◌+◌, ◌<◌, ◌==◌, ◌&&◌, ◌||◌, Bool, true, false, if◌then◌else◌, List, [], ◌∷◌, ◌++◌, length, Option, Some, None, IsSome, is_some, get_or-set_same, refl, sym, ap, subst, ◌∙◌, append_assoc, eq-eqb, arith, inl, inr}
 use Rattle.std.proofs.lemmas.{Bool.true≢false, Bool.or_parts, Bool.or_right, Bool.ne_eqb, Bool.Decides.eqb_tells, List.length-set, List.Elements.filter-append}
 use Rattle.omp_model.specs.declared.event.Outcome.TheVariants as outcome
-use Rattle.omp_model.specs.{declared.history.What.What, declared.history.What.TheVariants.Go, declared.history.What.TheVariants.Put, declared.history.What.TheVariants.Back, State.World, Heard.has_back, Heard.heard_at, Heard.heard_event, Heard.heard_from, Heard.heard_outcome, Heard.is_back, Heard.stores_at, Heard.stores_in, Legal.does, Storing.put_at}
-use Rattle.omp_model.proofs.{Turns.Leaves, Turns.leaves-turn, Later.at-set}
+use Rattle.omp_model.specs.Heard.{has_back, heard_at, heard_event, heard_from, heard_outcome, is_back, stores_at, stores_in}
+use Rattle.omp_model.{specs.declared.history.What.What, specs.declared.history.What.TheVariants.Go, specs.declared.history.What.TheVariants.Put, specs.declared.history.What.TheVariants.Back, specs.State.World, specs.Legal.does, specs.Storing.put_at, proofs.Turns.Leaves, proofs.Turns.leaves-turn, proofs.Later.at-set}
 use Rattle.team_run.specs.Names.{Item, is_registered, Stored, Callback, Event, Outcome, Entry, Run, State, pending_at, call_of, callback_of, after_from, back_from, entered, put_from, snap_of, event_reply, go_at, called, turn, NotBy}
 use Rattle.team_run.proofs.Serving.{on_thread}
 

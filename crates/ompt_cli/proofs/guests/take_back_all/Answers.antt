@@ -1,6 +1,5 @@
 use Rattle.std.proofs.Common.{◌≡◌, ◌∷◌, ◌++◌, [], length, length-append, reverse, sym, ap, ◌∙◌, append_assoc, arith}
-use Rattle.ompt_cli.specs.Guests.{guests_of}
-use Rattle.ompt_cli.proofs.Handing.{guests-more}
+use Rattle.ompt_cli.{specs.Guests.guests_of, proofs.Handing.guests-more}
 use Rattle.ompt_cli.proofs.guests.take_back_all.Goals as goal
 
 pub loop-part-preserved : goal.loop-part-preserved

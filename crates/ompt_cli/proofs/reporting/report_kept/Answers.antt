@@ -1,8 +1,7 @@
 use Rattle.std.proofs.Common.{ℕ, ◌∙◌, List, ap, refl, subst, sym}
 use Rattle.std.proofs.lemmas.Result.{IfOk-weaker}
 use Rattle.omp_model.specs.Records.{records_of}
-use Rattle.ompt_cli.specs.Commands.{HasGuests, run_of, text_in}
-use Rattle.ompt_cli.proofs.Telling.{command-is, guests-kept, written-as}
+use Rattle.ompt_cli.{specs.Commands.HasGuests, specs.Commands.run_of, specs.Commands.text_in, proofs.Telling.command-is, proofs.Telling.guests-kept, proofs.Telling.written-as}
 use Rattle.ompt_cli.proofs.reporting.report_kept.Goals as goal
 
 pub returns-clause-ran : goal.returns-clause-ran

@@ -1,7 +1,5 @@
 use Rattle.std.proofs.Common.{◌≡◌, ◌∙◌, refl, sym}
-use Rattle.ompt_cli.specs.Commands.{run_of}
-use Rattle.ompt_cli.proofs.Handing.{guests-serve}
-use Rattle.ompt_cli.proofs.Telling.{command-is, served-after, some-threads, threads-are}
+use Rattle.ompt_cli.{specs.Commands.run_of, proofs.Handing.guests-serve, proofs.Telling.command-is, proofs.Telling.served-after, proofs.Telling.some-threads, proofs.Telling.threads-are}
 use Rattle.ompt_cli.proofs.run.serve.Goals as goal
 
 pub returns-clause-observes : goal.returns-clause-observes

@@ -1,7 +1,5 @@
 use Rattle.std.proofs.Common.{◌≡◌, ◌∙◌, refl, sym}
-use Rattle.ompt_cli.specs.Commands.{run_of}
-use Rattle.ompt_cli.proofs.Beside.{guests_beside, profiles_beside}
-use Rattle.ompt_cli.proofs.Telling.{command-is, some-threads, threads-are}
+use Rattle.ompt_cli.{specs.Commands.run_of, proofs.Beside.guests_beside, proofs.Beside.profiles_beside, proofs.Telling.command-is, proofs.Telling.some-threads, proofs.Telling.threads-are}
 use Rattle.ompt_cli.proofs.run.serve_profiled.Goals as goal
 
 pub returns-clause-guests : goal.returns-clause-guests

@@ -1,6 +1,5 @@
 use Rattle.std.proofs.Common.{IfErr, IfOk, subst, sym}
-use Rattle.ompt_cli.specs.Names.{Command}
-use Rattle.ompt_cli.specs.{Loading.EndsFor, Loading.IsLoaded, Text.text_for}
+use Rattle.ompt_cli.specs.{Names.Command, Loading.EndsFor, Loading.IsLoaded, Text.text_for}
 use Rattle.ompt_cli.proofs.text.program_for.Goals as goal
 
 pub returns-in-Generate-clause-loaded : goal.returns-in-Generate-clause-loaded

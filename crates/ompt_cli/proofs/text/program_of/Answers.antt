@@ -1,5 +1,4 @@
-use Rattle.ompt_cli.specs.declared.end.Refusal.TheVariants.{Rule}
-use Rattle.ompt_cli.proofs.Reading.{broken-by, ends-refused, spells-by}
+use Rattle.ompt_cli.{specs.declared.end.Refusal.TheVariants.Rule, proofs.Reading.broken-by, proofs.Reading.ends-refused, proofs.Reading.spells-by}
 use Rattle.ompt_cli.proofs.text.program_of.Goals as goal
 
 pub returns-in-Ok-check-clause-program : goal.returns-in-Ok-check-clause-program

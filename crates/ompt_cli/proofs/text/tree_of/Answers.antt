@@ -1,5 +1,4 @@
-use Rattle.ompt_cli.specs.declared.end.Refusal.TheVariants.{Syntax, Tokens}
-use Rattle.ompt_cli.proofs.Reading.{end-is, ends-refused}
+use Rattle.ompt_cli.{specs.declared.end.Refusal.TheVariants.Syntax, specs.declared.end.Refusal.TheVariants.Tokens, proofs.Reading.end-is, proofs.Reading.ends-refused}
 use Rattle.ompt_cli.proofs.text.tree_of.Goals as goal
 
 pub returns-in_default-clause-ended : goal.returns-in_default-clause-ended

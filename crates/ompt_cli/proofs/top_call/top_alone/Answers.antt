@@ -1,8 +1,8 @@
 use Rattle.std.proofs.Common.{Err, ap}
-use Rattle.ompt_words.specs.declared.fault.WordsFault.{WordsFault}
 use Rattle.ompt_words.specs.declared.settings.Request.TheVariants as request
-use Rattle.ompt_cli.specs.Words.{texts}
+use Rattle.ompt_words.specs.declared.fault.WordsFault.{WordsFault}
 use Rattle.ompt_cli.proofs.Carrying.{in-range, is-serial, not-serial, read_carried, serial-reported, taken-as}
+use Rattle.ompt_cli.specs.Words.{texts}
 use Rattle.ompt_cli.proofs.top_call.top_alone.Goals as goal
 
 pub returns-then-not-settings-clause-asked : goal.returns-then-not-settings-clause-asked

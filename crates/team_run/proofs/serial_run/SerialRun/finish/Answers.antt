@@ -1,11 +1,8 @@
 use Rattle.std.proofs.Common.{ℕ, ◌≡◌, ◌<◌, ◌∙◌, IfSome, None, Option, ap, sym, subst, arith}
 use Rattle.std.specs.Option.{option_map}
-use Rattle.team_run.specs.Names.{TURN_LIMIT, arrival, state_of}
 use Rattle.omp_machine.specs.declared.ready.Ready.{Ready}
 use Rattle.omp_model.proofs.{Turns.turn-goes, Recording.first_enabled-enabled}
-use Rattle.team_run.specs.Serving.{Serves}
-use Rattle.team_run.proofs.Serving.{serves-then, same-then}
-use Rattle.team_run.proofs.Visiting.{caused, stops-here, serves-to, serves-all}
+use Rattle.team_run.{specs.Names.TURN_LIMIT, specs.Names.arrival, specs.Names.state_of, specs.Serving.Serves, proofs.Serving.serves-then, proofs.Serving.same-then, proofs.Visiting.caused, proofs.Visiting.stops-here, proofs.Visiting.serves-to, proofs.Visiting.serves-all}
 use Rattle.team_run.proofs.serial_run.SerialRun.finish.Goals as goal
 
 -- the thread that was found

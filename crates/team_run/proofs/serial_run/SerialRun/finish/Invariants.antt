@@ -1,6 +1,5 @@
 use Rattle.std.proofs.Common.{◌≡◌, ◌-◌, None}
-use Rattle.team_run.specs.Names.{TURN_LIMIT, state_of}
-use Rattle.team_run.specs.{Serving.Serves, Serving.AreSame, Standing.StandsAt}
+use Rattle.team_run.specs.{Names.TURN_LIMIT, Names.state_of, Serving.Serves, Serving.AreSame, Standing.StandsAt}
 use Rattle.team_run.proofs.serial_run.SerialRun.finish.Given as goal
 
 -- the run stands where its history leads to, and its parts were called for what was heard

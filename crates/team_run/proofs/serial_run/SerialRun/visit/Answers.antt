@@ -1,10 +1,8 @@
 use Rattle.std.proofs.Common.{◌≡◌, ◌∙◌, refl, sym, ap, subst, arith, inl, inr, ◌∷◌, []}
 use Rattle.omp_model.{specs.Storing.go_at, proofs.Recording.first_enabled-enabled, proofs.Recording.first_enabled-below}
-use Rattle.step_book.specs.BookView.{BookView, state_of, with_entries}
-use Rattle.step_book.proofs.Telling.{told-step, quiet-step, ended-step, not_yet-step}
-use Rattle.team_run.specs.Serving.{Answers}
-use Rattle.team_run.proofs.Serving.{same-itself}
+use Rattle.step_book.{specs.BookView.BookView, specs.BookView.state_of, specs.BookView.with_entries, proofs.Telling.told-step, proofs.Telling.quiet-step, proofs.Telling.ended-step, proofs.Telling.not_yet-step}
 use Rattle.team_run.proofs.Visiting.{QuietVisit, Visited, alone-visit, stops-here, stops-inside, untold-visit, visited-said, serves-said, serves-to, from_either, from_ok}
+use Rattle.team_run.{specs.Serving.Answers, proofs.Serving.same-itself}
 use Rattle.team_run.proofs.serial_run.SerialRun.visit.Goals as goal
 
 pub go_ready-requires-clause-thread : goal.go_ready-requires-clause-thread
