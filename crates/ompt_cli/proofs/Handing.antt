@@ -89,8 +89,7 @@ module _ {G : Type 0} {B : Type 0} (box : G → B) (stands : B → Record → Ty
       record { out = rw none (rw none at more.out); as_many = more.as_many; past = λ k d past. rw none; same = λ k d below. absurd (omega (arith, below)) }
   again itself (b ∷ guests) (held.Guest g ∷ parts) (held.Guest a ∷ after) rest out many kinds =
       let more = again itself guests parts after rest out.1 (omega (arith, many)) (same-tail SamePart (held.Guest g) (held.Guest a) parts after kinds) in
-      let first = subst (λ b. Same b (box a)) out.0 (same-head SamePart (held.Guest g) (held.Guest a) parts after kinds) in
-      record {
+      let first = subst (λ b. Same b (box a)) out.0 (same-head SamePart (held.Guest g) (held.Guest a) parts after kinds) in record {
         out = (refl, more.out);
         as_many = ap suc more.as_many;
         past = elim [ zero ↦ λ d past. absurd (omega (arith, past)) | suc k ↦ λ d past. more.past k d (omega (arith, past)) ];

@@ -39,8 +39,7 @@ shares_of run H threads = map (λ (k : ℕ). map record_of (heard_of run H k)) (
 
 pub heard-shared : (run : Run) (H : List Entry) (threads : ℕ) → 1 ≤ run.threads → Legal run H → run.threads ≡ threads → HearsOwn run H → AreShared (records_of run H) (shares_of run H threads)
 heard-shared run H threads some legal same own =
-    let as_many : length (shares_of run H threads) ≡ threads = length-map-range_with_len (λ (k : ℕ). map record_of (heard_of run H k)) 0 threads in
-    record {
+    let as_many : length (shares_of run H threads) ≡ threads = length-map-range_with_len (λ (k : ℕ). map record_of (heard_of run H k)) 0 threads in record {
       rising = rising-below SEQ_LIMIT 0 (records_of run H) (places-below run H some legal);
       few = λ k past. records-by_thread (heard run H) k ∙ ap (λ items. map record_of items) (own k (omega (arith, past, as_many, same)));
       each = λ k d below. get_or-map-range_with_len (λ (k : ℕ). map record_of (heard_of run H k)) 0 threads k k d (omega (arith, below, as_many)) (omega arith) ∙ sym (records-by_thread (heard run H) k);
@@ -54,8 +53,7 @@ pub kept-shares : {A : Type 0} (keep : List EventRecord → A) (run : Run) (H : 
     → ((k : ℕ) (d : A) → k < threads → slice_index_or parts k d ≡ keep (map record_of (heard_of run H k))) → 1 ≤ run.threads → Legal run H → run.threads ≡ threads → HearsOwn run H → AreKept keep (records_of run H) parts
 kept-shares {A} keep run H threads parts as_many each some legal same own =
     let share = λ (k : ℕ). map record_of (heard_of run H k) in
-    let many : length (shares_of run H threads) ≡ threads = length-map-range_with_len share 0 threads in
-    record {
+    let many : length (shares_of run H threads) ≡ threads = length-map-range_with_len share 0 threads in record {
       shares = shares_of run H threads;
       shared = heard-shared run H threads some legal same own;
       kept = same_lists parts (map keep (shares_of run H threads)) (omega (arith, as_many, length-map (shares_of run H threads) keep, many))
@@ -100,14 +98,12 @@ pub has_kept :
     → HasObserved stands Same job (replicate job.settings.threads (keep [])) observed → HasKept keep job observed
 has_kept keep stands into out Same job observed has =
     let report = observed.report in
-    let threads = threads-are job report has.observes in
-    record {
+    let threads = threads-are job report has.observes in record {
       observes = has.observes;
-      stays =
-          record {
-            mask_is = parts-all keep stands into out report.serial (run_of report) report.cause report.history job.settings.threads observed.parts.items job.some has.runs;
-            silent = parts-silent keep stands into out report.serial (run_of report) report.cause report.history job.settings.threads observed.parts.items job.some has.runs threads;
-          };
+      stays = record {
+        mask_is = parts-all keep stands into out report.serial (run_of report) report.cause report.history job.settings.threads observed.parts.items job.some has.runs;
+        silent = parts-silent keep stands into out report.serial (run_of report) report.cause report.history job.settings.threads observed.parts.items job.some has.runs threads;
+      };
       kept = parts-kept keep stands into out report.serial (run_of report) report.cause report.history job.settings.threads observed.parts.items job.some has.runs has.observes.to.legal threads has.observes.to.own;
       printed = has.printed;
     }

@@ -45,8 +45,7 @@ module _ (text : List ℕ) where
   -- programs that it spells differ in the numbers of their nodes alone
   pub programs-alike : (one other : TreeView) → Spells text one → Spells text other → AreAlike one other
   programs-alike one other first second =
-      let same = reads-one text first.read.tokens second.read.tokens first.read.has.read second.read.has.read in
-      record {
+      let same = reads-one text first.read.tokens second.read.tokens first.read.has.read second.read.has.read in record {
         root = tree_one text (root_tree one) (root_tree other) first.read.has.tree_is second.read.has.tree_is;
         end = first.read.end_is ∙ ap end_of same ∙ sym second.read.end_is;
         main = first.read.main_is ∙ ap (main_of text) same ∙ sym second.read.main_is;
@@ -111,13 +110,12 @@ text-judged text = by (ltb 65536 (length text)) refl
 
 -- the text has this to be refused for
 pub ends-refused : (text : List ℕ) (why : Refusal) → IsRefused why text → EndsFor (Some text) (Refused why)
-ends-refused text why is =
-    record {
-      before = tt;
-      refused = λ other same. let one : why ≡ other = cc in subst (λ (why : Refusal). IsRefused why text) one is;
-      accepted = λ other has. refusal-one text why other is has;
-      runs = λ program. absurd (program-not_refused text why program is);
-    }
+ends-refused text why is = record {
+  before = tt;
+  refused = λ other same. let one : why ≡ other = cc in subst (λ (why : Refusal). IsRefused why text) one is;
+  accepted = λ other has. refusal-one text why other is has;
+  runs = λ program. absurd (program-not_refused text why program is);
+}
 
 -- memory failed
 pub ends-memory : (text : Option (List ℕ)) → EndsFor text Memory

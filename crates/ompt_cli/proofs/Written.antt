@@ -51,8 +51,7 @@ lines-heard (item ∷ items) = ap (λ (rest : List ℕ). line_text item.seq item
 -- a certificate of one program is one of each that its text spells
 pub certificate-of : (file : HistoryFile) (one other : TreeView) → Spells file.text one → Spells file.text other → IsCertificate (run_of_file one file) file → IsCertificate (run_of_file other file) file
 certificate-of file one other spells spelled certificate =
-    let alike = programs-alike file.text one other spells spelled in
-    record {
+    let alike = programs-alike file.text one other spells spelled in record {
       cause = certificate.cause;
       legal = same_legal (run_of_file one file) other alike file.history certificate.legal;
       ends = same_cause (run_of_file one file) other alike file.history ∙ certificate.ends;

@@ -76,7 +76,7 @@ fn with_report<P: ToolPart>(
 ) -> Observed<P>
     ensures observed { (job : Job) (parts : List P) → settings ≡ job.settings → IsOf job.loaded program →
         IsRan P.stands_for P.same settings.serial
-            (run_of program.tree.value settings.threads settings.steps ran) parts ran →
+        (run_of program.tree.value settings.threads settings.steps ran) parts ran →
         HasObserved P.stands_for P.same job parts result }
     ensures guests { result.report.guests ≡ guests }
 {

@@ -39,31 +39,28 @@ told_on-served t k h items item is =
 module _ {P : Type 0} (stands_for : P → Record → Type 0) (run : Run) where
   -- one step after another
   pub serves-then : (parts between after : List P) (H K L : List Entry) (unheard : Option ℕ) → Serves stands_for run parts H None between K → Serves stands_for run between K unheard after L → Serves stands_for run parts H unheard after L
-  serves-then parts between after H K L unheard first second =
-      record {
-        as_many = second.as_many ∙ first.as_many;
-        each = λ k d h below stands. second.each k d h (subst (λ n. k < n) (sym first.as_many) below) (first.each k d h below stands);
-      }
+  serves-then parts between after H K L unheard first second = record {
+    as_many = second.as_many ∙ first.as_many;
+    each = λ k d h below stands. second.each k d h (subst (λ n. k < n) (sym first.as_many) below) (first.each k d h below stands);
+  }
 
   -- where nothing more is heard, and the parts stand for what they stood for, but for a call that found no memory
   pub serves-unheard : (parts others : List P) (H K : List Entry) (unheard : Option ℕ) → heard run K ≡ heard run H → OnlyUnheard stands_for unheard parts others → Serves stands_for run parts H unheard others K
-  serves-unheard parts others H K unheard same kept =
-      record {
-        as_many = kept.as_many;
-        each = λ k d h below stands. subst (λ items. stands_for (slice_index_or others k d) (unheard_on unheard k (served h items))) (sym (heard_of-same run H K k same)) (kept.each k below d (served h (heard_of run H k)) stands);
-      }
+  serves-unheard parts others H K unheard same kept = record {
+    as_many = kept.as_many;
+    each = λ k d h below stands. subst (λ items. stands_for (slice_index_or others k d) (unheard_on unheard k (served h items))) (sym (heard_of-same run H K k same)) (kept.each k below d (served h (heard_of run H k)) stands);
+  }
 
   -- where one item more is heard, and the part of its thread was told of it
   pub serves-told :
       (parts others : List P) (H K : List Entry) (t : ℕ) (item : Item) → item.thread ≡ t → heard run K ≡ heard run H ++ item ∷ [] → length others ≡ length parts
       → ((k : ℕ) → k < length parts → Becomes stands_for parts others k (told_on t k item)) → Serves stands_for run parts H None others K
-  serves-told parts others H K t item is more as_many each =
-      record {
-        as_many = as_many;
-        each = λ k d h below stands.
-            subst (λ (h : Record). stands_for (slice_index_or others k d) h) (told_on-served t k h (heard_of run H k) item is ∙ ap (λ items. served h items) (sym (heard_of-more run H K (item ∷ []) k more)))
-            (each k below d (served h (heard_of run H k)) stands);
-      }
+  serves-told parts others H K t item is more as_many each = record {
+    as_many = as_many;
+    each = λ k d h below stands.
+        subst (λ (h : Record). stands_for (slice_index_or others k d) h) (told_on-served t k h (heard_of run H k) item is ∙ ap (λ items. served h items) (sym (heard_of-more run H K (item ∷ []) k more)))
+        (each k below d (served h (heard_of run H k)) stands);
+  }
 
 -- calls that are silent are so in both parts
 pub silent-front : (xs ys : List Item) → AreSilent (xs ++ ys) → AreSilent xs
@@ -130,20 +127,19 @@ pub is-ran :
     → HaveServed stands_for Same is_serial run ran.cause ran.history ran.text.items started between → ChangesFirst stands_for Same (finished_by answer) between ran.parts.items → IsRan stands_for Same is_serial run parts ran
 is-ran {P} stands_for Same onward is_serial run ran parts started between answer registered mask_is always some start served last = record {
   to = served.to;
-  parts =
-      record {
-        as_many = last.as_many ∙ served.as_many ∙ start.as_many;
-        answer = answer;
-        registered = registered;
-        mask_is = mask_is;
-        unheard = served.unheard;
-        are_unheard = served.are_unheard;
-        all_heard = served.all_heard;
-        first = λ d h stands. last.first d _ (served.each 0 d (initialized h answer registered) (omega (arith, some, start.as_many)) (start.first d h stands));
-        each = λ k past below d h stands.
-            subst (λ (part : P). stands_for part (called_for (heard_of run ran.history k) (served.unheard k) h)) (sym (last.others_are k d past))
-            (served.each k d h (omega (arith, below, start.as_many)) (subst (λ (part : P). stands_for part h) (sym (start.others_are k d past)) stands));
-      };
+  parts = record {
+    as_many = last.as_many ∙ served.as_many ∙ start.as_many;
+    answer = answer;
+    registered = registered;
+    mask_is = mask_is;
+    unheard = served.unheard;
+    are_unheard = served.are_unheard;
+    all_heard = served.all_heard;
+    first = λ d h stands. last.first d _ (served.each 0 d (initialized h answer registered) (omega (arith, some, start.as_many)) (start.first d h stands));
+    each = λ k past below d h stands.
+        subst (λ (part : P). stands_for part (called_for (heard_of run ran.history k) (served.unheard k) h)) (sym (last.others_are k d past))
+        (served.each k d h (omega (arith, below, start.as_many)) (subst (λ (part : P). stands_for part h) (sym (start.others_are k d past)) stands));
+  };
   same = same-then Same onward parts between ran.parts.items (served.as_many ∙ start.as_many) (same-then Same onward parts started between start.as_many start.same served.same) last.same;
   always = always;
   text = served.text_is;

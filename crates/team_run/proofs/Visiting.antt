@@ -66,16 +66,15 @@ same-pending S after t (Halts halt) leaves none = leaves.2
 
 -- before the first entry
 pub stands-start : (run : Run) → 1 ≤ run.threads → run.threads ≤ 16 → StandsAt run 0 []
-stands-start run some few =
-    record {
-      some = some;
-      few = few;
-      within = omega arith;
-      nobody = all_none-replicate run.threads;
-      has_run = HasRun-start run;
-      own = λ k past. refl;
-      silent = λ silent. tt;
-    }
+stands-start run some few = record {
+  some = some;
+  few = few;
+  within = omega arith;
+  nobody = all_none-replicate run.threads;
+  has_run = HasRun-start run;
+  own = λ k past. refl;
+  silent = λ silent. tt;
+}
 
 -- a run may stop where it stands
 pub stops-here : (run : Run) (from : ℕ) (H : List Entry) → StandsAt run from H → StopsAt run H
@@ -162,11 +161,10 @@ module _ (run : Run) (from : ℕ) (H : List Entry) (t : ℕ) (stands : StandsAt 
 
   -- where the thread stops inside its callback
   pub stops-inside : (e : Event) → (turn run now t).outcome ≡ Happens e → StopsAt run (H ++ go_at t ∷ [])
-  stops-inside e happens =
-      record {
-        serial = HasRun-pending t e stands.has_run turns happens;
-        own = own-unheard run H (H ++ go_at t ∷ []) (heard-pending t e stands.has_run happens) stands.own;
-      }
+  stops-inside e happens = record {
+    serial = HasRun-pending t e stands.has_run turns happens;
+    own = own-unheard run H (H ++ go_at t ∷ []) (heard-pending t e stands.has_run happens) stands.own;
+  }
 
   module _ {P : Type 0} (stands_for : P → Record → Type 0) (parts others : List P) where
     -- where the run has come to this state
@@ -174,19 +172,17 @@ module _ (run : Run) (from : ℕ) (H : List Entry) (t : ℕ) (stands : StandsAt 
         → HearsOwn run longer → (HearsSilent run longer → StoresNothing longer) → Serves stands_for run parts H None others longer → next.turns ≡ now.turns + 1
         → Visited stands_for run H t parts others longer
     visited-at next longer has nobody own silent serves turned =
-        let there : after run longer ≡ next = HasRun-after has in
-        record {
+        let there : after run longer ≡ next = HasRun-after has in record {
           serves = serves;
-          stands =
-              record {
-                some = stands.some;
-                few = stands.few;
-                within = below;
-                nobody = ap none_pending there ∙ nobody;
-                has_run = subst (λ (S : State). HasRun run longer (record { state = S; next = t + 1; inside = None })) (sym there) has;
-                own = own;
-                silent = silent;
-              };
+          stands = record {
+            some = stands.some;
+            few = stands.few;
+            within = below;
+            nobody = ap none_pending there ∙ nobody;
+            has_run = subst (λ (S : State). HasRun run longer (record { state = S; next = t + 1; inside = None })) (sym there) has;
+            own = own;
+            silent = silent;
+          };
           turns = ap (λ (S : State). S.turns) there ∙ turned;
         }
 
@@ -261,19 +257,17 @@ module _ (run : Run) (from : ℕ) (H : List Entry) (t : ℕ) (stands : StandsAt 
 
     -- where the part found no memory, nothing more was heard, and the history ends inside the callback
     pub serves-said : OnlyUnheard stands_for (Some t) parts others → ServesTo stands_for run parts H others (H ++ go_at t ∷ [])
-    serves-said kept =
-        record {
-          unheard = Some t;
-          is_unheard =
-              record {
-                before = H;
-                last = refl;
-                callback = called e;
-                inside = ap (λ (S : State). pending_at S t) (stands.has_run.reached (go_at t ∷ [])) ∙ inside-event e said.happens;
-                registered = said.registered;
-              };
-          serves = serves-unheard stands_for run parts others H (H ++ go_at t ∷ []) (Some t) (heard-pending t e stands.has_run said.happens) kept;
-        }
+    serves-said kept = record {
+      unheard = Some t;
+      is_unheard = record {
+        before = H;
+        last = refl;
+        callback = called e;
+        inside = ap (λ (S : State). pending_at S t) (stands.has_run.reached (go_at t ∷ [])) ∙ inside-event e said.happens;
+        registered = said.registered;
+      };
+      serves = serves-unheard stands_for run parts others H (H ++ go_at t ∷ []) (Some t) (heard-pending t e stands.has_run said.happens) kept;
+    }
 
 -- a visit that told nothing: what was added, and what is so afterwards
 pub record QuietVisit {P : Type 0} (stands_for : P → Record → Type 0) (book next : BookView) (t : ℕ) (parts : List P) : Type 0 where
@@ -283,20 +277,18 @@ pub record QuietVisit {P : Type 0} (stands_for : P → Record → Type 0) (book 
 
 module _ (book next : BookView) (from t : ℕ) (stands : StandsAt book.run from book.history) (turns : first_enabled book.run (state_of book) from ≡ Some t) (added : next ≡ with_entries book (turn_visit book t).added) {P : Type 0} (stands_for : P → Record → Type 0) (parts : List P) where
   pub alone-visit : IsAlone book t → QuietVisit stands_for book next t parts
-  alone-visit alone =
-      record {
-        added = go_at t ∷ [];
-        whole = added ∙ ap (with_entries book) alone.added_is;
-        visited = visited-alone book.run from book.history t stands turns stands_for parts alone.none;
-      }
+  alone-visit alone = record {
+    added = go_at t ∷ [];
+    whole = added ∙ ap (with_entries book) alone.added_is;
+    visited = visited-alone book.run from book.history t stands turns stands_for parts alone.none;
+  }
 
   pub untold-visit : HasUntold book t → QuietVisit stands_for book next t parts
-  untold-visit untold =
-      record {
-        added = event_at t [];
-        whole = added ∙ ap (with_entries book) untold.added_is;
-        visited = visited-untold book.run from book.history t stands turns stands_for parts untold.is_untold;
-      }
+  untold-visit untold = record {
+    added = event_at t [];
+    whole = added ∙ ap (with_entries book) untold.added_is;
+    visited = visited-untold book.run from book.history t stands turns stands_for parts untold.is_untold;
+  }
 
 -- what a run that has stopped has come to
 pub have-served :
@@ -304,17 +296,15 @@ pub have-served :
     → ServesTo stands_for run parts [] others H → AreSame Same parts others → StopsAt run H → (reason ≢ cause.Memory → StandsAt run next H) → (reason ≢ cause.Memory → first_enabled run (after run H) next ≡ None)
     → (reason ≢ cause.Memory → cause_of run H ≡ Some reason) → (reason ≡ cause.Memory → H ≢ []) → text ≡ (after run H).world.store.text → HaveServed stands_for Same true run reason H text parts others
 have-served {P} stands_for Same run next reason H text parts others serves same stops stands over caused begun printed =
-    let heard : reason ≢ cause.Memory → serves.unheard ≡ None = λ found. unheard-none run next H serves.unheard (stands found) serves.is_unheard in
-    record {
-      to =
-          record {
-            legal = stops.serial.legal;
-            ends = caused;
-            own = stops.own;
-            in_order = λ is. stops.serial;
-            whole = λ is found silent. sym (serial-whole run H (HasRun-whole (stands found).has_run (over found)) ((stands found).silent silent));
-            begun = begun;
-          };
+    let heard : reason ≢ cause.Memory → serves.unheard ≡ None = λ found. unheard-none run next H serves.unheard (stands found) serves.is_unheard in record {
+      to = record {
+        legal = stops.serial.legal;
+        ends = caused;
+        own = stops.own;
+        in_order = λ is. stops.serial;
+        whole = λ is found silent. sym (serial-whole run H (HasRun-whole (stands found).has_run (over found)) ((stands found).silent silent));
+        begun = begun;
+      };
       text_is = printed;
       as_many = serves.serves.as_many;
       unheard = is_of serves.unheard;

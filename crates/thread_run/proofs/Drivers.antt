@@ -119,8 +119,7 @@ module _ {P : Type 0} (stands_for : P → Record → Type 0) (Same : P → P →
   beyond : (k : ℕ) → k < run.threads → Beyond k
   beyond k below =
       let begins = is_closed.begins k none below in
-      let seen = (get_or passes k none).seen in
-      record {
+      let seen = (get_or passes k none).seen in record {
         more = entries_of begins.rest;
         whole = is_closed.entries ∙ ap entries_of begins.whole ∙ entries-append seen begins.rest;
         not_by = holds-others k begins.rest (own-back seen begins.rest (subst AreOwn begins.whole is_closed.own)) begins.others;
@@ -155,27 +154,25 @@ module _ {P : Type 0} (stands_for : P → Record → Type 0) (Same : P → P →
   have-served cause known begun =
       let other : cause ≢ causes.Memory → closed.cause ≢ Some causes.Memory = λ found is. let same : Some cause ≡ Some causes.Memory = sym (known found) ∙ is in found cc in
       record {
-        to =
-            record {
-              legal = is_closed.legal;
-              ends = λ found. cause-known (any_ended passes) cause (cause_of run closed.history) (sym (known found) ∙ cause_is) found;
-              own = hears-own run passes closed.history is_closed;
-              in_order = λ is. absurd cc;
-              whole = λ is. absurd cc;
-              begun = begun;
-            };
+        to = record {
+          legal = is_closed.legal;
+          ends = λ found. cause-known (any_ended passes) cause (cause_of run closed.history) (sym (known found) ∙ cause_is) found;
+          own = hears-own run passes closed.history is_closed;
+          in_order = λ is. absurd cc;
+          whole = λ is. absurd cc;
+          begun = begun;
+        };
         text_is = text;
         as_many = back ∙ sym count;
         unheard = λ k. unheard-by k (cases_lt k run.threads);
         are_unheard = λ k below. left-by k (cases_lt k run.threads) below;
         all_heard = λ found k below. heard-by k (cases_lt k run.threads) (other found) below;
         each = λ k d h below stands. each-by k (cases_lt k run.threads) d h below stands;
-        same =
-            record {
-              each = λ k d below.
-                  subst (λ part. Same (get_or parts k d) part) (sym (get_or_default others k d p (omega (arith, below, count, back))))
-                  (subst (λ part. Same part (get_or others k p)) (sym (get_or_default parts k d p below)) (driver k (omega (arith, below, count))).driven.same_is);
-            };
+        same = record {
+          each = λ k d below.
+              subst (λ part. Same (get_or parts k d) part) (sym (get_or_default others k d p (omega (arith, below, count, back))))
+              (subst (λ part. Same part (get_or others k p)) (sym (get_or_default parts k d p below)) (driver k (omega (arith, below, count))).driven.same_is);
+        };
       }
 
 -- what is so of each is so of each that was kept

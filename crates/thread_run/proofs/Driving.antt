@@ -27,8 +27,7 @@ calm-none run history t outside =
 -- a Go without an event
 calm-alone : (run : Run) (history : List Entry) (t : ℕ) → pending_at (after run history) t ≡ None → inside_after (turn run (after run history) t).outcome t ≡ None → IsCalm run history (go_at t ∷ []) t
 calm-alone run history t outside none =
-    let S = after run history in
-    record {
+    let S = after run history in record {
       same = more-without run (first run) 0 t history (go_at t ∷ []) refl;
       outside =
           ap (λ (S : State). pending_at S t) (after-append run (first run) history (go_at t ∷ []))
@@ -53,8 +52,7 @@ within run t below = let none : Option Callback = None in omega (arith, below, l
 calm-untold : (run : Run) (history : List Entry) (t : ℕ) (event : Event) → t < run.threads → pending_at (after run history) t ≡ None → (turn run (after run history) t).outcome ≡ outcome.Happens event → is_registered run.mask (callback_of event) ≡ false → IsCalm run history (go_at t ∷ back_at t ∷ []) t
 calm-untold run history t event below outside happens unregistered =
     let S = after run history in
-    let silent : heard_on run S (0 + length history) (go_at t ∷ back_at t ∷ []) t ≡ [] = rw (happens, unregistered) refl in
-    record {
+    let silent : heard_on run S (0 + length history) (go_at t ∷ back_at t ∷ []) t ≡ [] = rw (happens, unregistered) refl in record {
       same = heard-split run (first run) 0 t history (go_at t ∷ back_at t ∷ []) (within run t below) outside ∙ ap (λ more. heard_of run history t ++ more) silent ∙ append-nil (heard_of run history t);
       outside = ap (λ (S : State). pending_at S t) (after-append run (first run) history (go_at t ∷ back_at t ∷ [])) ∙ back-outside (turn run S t).state t;
     }
@@ -126,14 +124,13 @@ module _ {P : Type 0} (stands_for : P → Record → Type 0) (Same : P → P →
 
   -- others' entries change nothing
   pub driven-others : (pass later : PassView) (part : P) (more : List Entry) → NotBy pass.thread more → later.thread ≡ pass.thread → entries_of later.seen ≡ entries_of pass.seen ++ more → (pass.ended ≡ true → later.ended ≡ true) → Driven pass part → Driven later part
-  driven-others pass later part more none thread seen ended driven =
-      record {
-        unheard = driven.unheard;
-        left = rw (seen, thread) (left-others run (entries_of pass.seen) more pass.thread driven.unheard none driven.left);
-        over = λ unheard. ended (driven.over unheard);
-        hears = λ h stands. rw (seen, thread, heard-others run (entries_of pass.seen) more pass.thread none) (driven.hears h stands);
-        same_is = driven.same_is;
-      }
+  driven-others pass later part more none thread seen ended driven = record {
+    unheard = driven.unheard;
+    left = rw (seen, thread) (left-others run (entries_of pass.seen) more pass.thread driven.unheard none driven.left);
+    over = λ unheard. ended (driven.over unheard);
+    hears = λ h stands. rw (seen, thread, heard-others run (entries_of pass.seen) more pass.thread none) (driven.hears h stands);
+    same_is = driven.same_is;
+  }
 
   -- a hold without an entry
   pub driven-grown : (pass later : PassView) (part : P) → AddsHold pass later [] → (pass.ended ≡ true → later.ended ≡ true) → Driven pass part → Driven later part

@@ -8,8 +8,7 @@ use Rattle.ompt_cli.proofs.history_writing.write_history_of_run.Goals as goal
 pub write_file-end-requires : goal.write_file-end-requires
 write_file-end-requires g c =
     let report = c.args.report in
-    let (job, observes) = c.requires.observes in
-    record {
+    let (job, observes) = c.requires.observes in record {
       threads = threads_named (run_of report) report.history (some-threads job report observes) (few-threads job report observes) observes.to.legal;
       text = subst (λ (text : List ℕ). length text ≤ 65536) (sym observes.text_is ∙ c.requires.text) job.short;
       count = few-entries (run_of report) report.history observes.to.legal;

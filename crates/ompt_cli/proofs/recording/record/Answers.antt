@@ -17,8 +17,7 @@ returns-clause-ran g c =
     let report = c.in_ok-report.field-0.report in
     let has = c.in_ok-report.ensures.kept in
     let command = command-is c.args.job report has.observes ∙ c.requires.command in
-    let shared : AreShared (records_of (run_of report) report.history) c.deref.result.now = rw c.deref.ensures.value (kept-shared _ _ has.kept) in
-    record {
+    let shared : AreShared (records_of (run_of report) report.history) c.deref.result.now = rw c.deref.ensures.value (kept-shared _ _ has.kept) in record {
       observes = has.observes;
       stays = λ other. has.stays;
       ended = c.write_trace_of_run-end.ensures.end;

@@ -10,8 +10,7 @@ returns-clause-ran g c =
     let has = c.in_ok-report.ensures.kept in
     let command = command-is c.args.job report has.observes in
     let run = run_of report in
-    let records = records_of run report.history in
-    record {
+    let records = records_of run report.history in record {
       observes = has.observes;
       stays = λ other. has.stays;
       ended = c.write_made-end.ensures.end;

@@ -8,8 +8,7 @@ pub returns-clause-ran : goal.returns-clause-ran
 returns-clause-ran g c =
     let report = c.in_ok-report.field-0.report in
     let observes = c.in_ok-report.ensures.observes in
-    let command = command-is c.args.job report observes ∙ c.requires.command in
-    record {
+    let command = command-is c.args.job report observes ∙ c.requires.command in record {
       observes = observes;
       stays = λ other. absurd (other (subst HasGuests (sym command) tt));
       ended = c.write_run-end.ensures.end;

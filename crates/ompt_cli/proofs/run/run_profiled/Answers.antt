@@ -9,8 +9,7 @@ returns-clause-ran g c =
     let report = c.in_ok-report.field-0.report in
     let has = c.in_ok-report.ensures in
     let command = command-is c.args.job report has.observes ∙ c.requires.command in
-    let records = records_of (run_of report) report.history in
-    record {
+    let records = records_of (run_of report) report.history in record {
       observes = has.observes;
       stays = λ other. absurd (other (subst HasGuests (sym command) tt));
       ended = c.write_made-end.ensures.end;

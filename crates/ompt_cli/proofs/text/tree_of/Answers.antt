@@ -6,8 +6,7 @@ returns-in_default-clause-ended c = ends-refused c.args.text.now (Tokens c.in-Er
 
 pub returns-in-Ok-read_program-clause-tree : goal.returns-in-Ok-read_program-clause-tree
 returns-in-Ok-read_program-clause-tree c =
-    let read = rw c.deref.ensures.value at c.in-Ok-read_program.ensures in
-    record {
+    let read = rw c.deref.ensures.value at c.in-Ok-read_program.ensures in record {
       tokens = c.in-Ok.tokens.items;
       has = record { read = c.in-Ok.ensures.read; tree_is = read.tree };
       end_is = end-is c.args.text.now c.in-Ok.tokens.items c.in-Ok-read_program.tree.end c.in-Ok.ensures.tokens read.end;

@@ -12,8 +12,7 @@ returns g c =
     let parts = c.in_ok-closed.parts in
     let first = changes-vector stands_for Same _ c.args.parts.items c.deref_mut.result.now c.initialize_first-start.new.parts c.args.parts.len c.deref_mut.ensures.value (sym c.args.parts.ok.0) c.initialize_first-start.ensures.first in
     let last = changes-vector stands_for Same _ parts.items c.deref_mut-2.result.now c.finalize_first.new.parts parts.len c.deref_mut-2.ensures.value (sym parts.ok.0) c.finalize_first.ensures in
-    let begun : cause.result ≡ causes.Memory → c.in_ok-closed.closed.history ≢ [] = search rules in
-    record {
+    let begun : cause.result ≡ causes.Memory → c.in_ok-closed.closed.history ≢ [] = search rules in record {
       ran =
           is-ran stands_for Same (g.met.P.ToolPart g.world.𝓛 g.world.𝓜 g.world.𝓡 ((λ s x. x), (λ x. x), (λ x. x), λ x. x)).same_onward false
           (run_of_program c.args.program c.mask_of-mask.result c.args.threads c.args.steps) _ c.args.parts.items _ parts.items start.answer start.registered c.mask_of-mask.ensures.mask

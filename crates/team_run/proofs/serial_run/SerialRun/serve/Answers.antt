@@ -8,8 +8,7 @@ pub returns-clause-answers : goal.returns-clause-answers
 returns-clause-answers g c =
     let parts = c.args.self.now.parts.items in
     let t = c.args.thread in
-    let reply = c.in_ok-reply.reply in
-    record {
+    let reply = c.in_ok-reply.reply in record {
       reply = reply;
       history_is = rw (c.reuse.ensures, c.answer.ensures) refl;
       as_many = length-set parts t c.callback.new.self;

@@ -60,8 +60,7 @@ returns-in-Quiet g c =
     let quiet : QuietVisit stands_for book c.go_ready.new.self t parts = elim c.in-Quiet.is [
       | inl is ↦ elim (quiet-step book t (step ∙ is)) [ inl none ↦ alone none | inr some ↦ untold some ]
       | inr other ↦ elim other [ inl not_yet ↦ absurd (not_yet-step book t (step ∙ not_yet)) | inr ended ↦ alone (ended-step book t ended.0 (step ∙ ended.1)) ]
-    ] in
-    record {
+    ] in record {
       run = rw quiet.whole refl;
       serves = rw quiet.whole (serves-to _ _ _ _ quiet.visited.stands stands_for _ _ quiet.visited.serves);
       same = same-itself g.P.ToolPart.same (g.met.P.ToolPart g.world.𝓛 g.world.𝓜 g.world.𝓡 ((λ s x. x), (λ x. x), (λ x. x), λ x. x)).same_itself parts;
