@@ -1,6 +1,6 @@
 -- The parts of a run that keep what they are told: what they kept is what is recorded of the run.
 use Rattle.std.proofs.Common.{◌≡◌, ℕ, ◌+◌, ◌<◌, ◌≤◌, Bool, List, [], ◌∷◌, map, length, replicate, slice_index_or, refl, sym, ap, subst, ◌∙◌, suc, arith}
-use Rattle.std.proofs.lemmas.List.{get_or-map, get_or-replicate, length-map, length-replicate, same_lists}
+use Rattle.std.proofs.lemmas.List.{map-id, get_or-map, get_or-replicate, length-map, length-replicate, same_lists}
 use Rattle.std.{specs.List.range_with_len, proofs.lemmas.List.FromFn.get_or-map-range_with_len, proofs.lemmas.List.FromFn.length-map-range_with_len}
 use Rattle.tool_report.specs.Order.{AreFrom, AreRising}
 use Rattle.omp_model.proofs.Recording.{records-by_thread}
@@ -110,8 +110,4 @@ has_kept keep stands into out Same job observed has =
 
 -- a part that keeps all keeps its share
 pub kept-shared : (events : List EventRecord) (parts : List (List EventRecord)) → AreKept (λ (events : List EventRecord). events) events parts → AreShared events parts
-kept-shared events parts kept = subst (AreShared events) (sym (kept.kept ∙ map_id kept.shares)) kept.shared
-  where
-    map_id : (xs : List (List EventRecord)) → map (λ (events : List EventRecord). events) xs ≡ xs
-    map_id [] = refl
-    map_id (x ∷ xs) = ap (λ rest. x ∷ rest) (map_id xs)
+kept-shared events parts kept = subst (AreShared events) (sym (kept.kept ∙ map-id kept.shares)) kept.shared
