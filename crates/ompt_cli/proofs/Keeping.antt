@@ -1,13 +1,13 @@
 -- The parts of a run that keep what they are told: what they kept is what is recorded of the run.
-use Rattle.std.proofs.Common.{◌≡◌, ℕ, ◌+◌, ◌<◌, ◌≤◌, Bool, List, [], ◌∷◌, map, length, replicate, slice_index_or, refl, sym, ap, subst, ◌∙◌, suc, arith}
+use Rattle.std.proofs.Common.{◌≡◌, ℕ, ◌+◌, ◌<◌, ◌≤◌, List, [], ◌∷◌, map, length, replicate, slice_index_or, refl, sym, ap, subst, ◌∙◌, suc, arith}
 use Rattle.std.proofs.lemmas.List.{map-id, get_or-map, get_or-replicate, length-map, length-replicate, same_lists}
 use Rattle.std.{specs.List.range_with_len, proofs.lemmas.List.FromFn.get_or-map-range_with_len, proofs.lemmas.List.FromFn.length-map-range_with_len}
 use Rattle.tool_report.specs.Order.{AreFrom, AreRising}
 use Rattle.omp_model.proofs.Recording.{records-by_thread}
 use Rattle.run_trace.proofs.Heard.{AreBelow, places-below}
-use Rattle.team_run.specs.{Serving.RunsParts, Standing.AreSilent, Standing.HearsOwn, Standing.HearsSilent}
-use Rattle.ompt_cli.specs.Names.{Item, Record, StartedWith, StoresNothing, PROFILE_MASK, KeeperFor, AreKept, AreShared, Cause, Entry, EventRecord, Run, heard, heard_of, Legal, record_of, records_of, SEQ_LIMIT, mask_of}
-use Rattle.ompt_cli.{specs.Reports.HasKept, specs.Reports.HasObserved, specs.declared.observing.Observed.Observed, specs.declared.job.Job.Job, specs.Commands.run_of, proofs.Calls.is-at, proofs.Calls.part-at, proofs.Calls.record_at, proofs.Telling.threads-are}
+use Rattle.team_run.specs.Standing.{AreSilent, HearsOwn}
+use Rattle.ompt_cli.specs.Names.{Item, Record, StartedWith, StoresNothing, PROFILE_MASK, KeeperFor, AreKept, AreShared, Entry, EventRecord, Run, heard, heard_of, Legal, record_of, records_of, SEQ_LIMIT, mask_of}
+use Rattle.ompt_cli.{specs.Reports.HasKept, specs.Reports.HasObserved, specs.declared.observing.Observed.Observed, specs.declared.job.Job.Job, specs.Commands.run_of, proofs.Calls.IsAt, proofs.Calls.is-at, proofs.Calls.part-at, proofs.Calls.record_at, proofs.Telling.threads-are}
 
 -- positions from one on are from each smaller one on
 from-less : (least more : ℕ) (events : List EventRecord) → least ≤ more → AreFrom more events → AreFrom least events
@@ -62,51 +62,44 @@ kept-shares {A} keep run H threads parts as_many each some legal same own =
           ∙ sym (get_or-map keep (shares_of run H threads) k [] d (omega (arith, below, as_many, many))));
     }
 
--- parts that stand for what they keep
-module _ {A : Type 0} (keep : List EventRecord → A) (stands : A → Record → Type 0) (into : (kept : A) (h : Record) → KeeperFor keep kept h → stands kept h) (out : (kept : A) (h : Record) → stands kept h → KeeperFor keep kept h) (serial : Bool) (run : Run) (cause : Cause) (H : List Entry) (threads : ℕ) (parts : List A) (some : 1 ≤ threads) (runs : RunsParts stands serial run cause H (replicate threads (keep [])) parts) where
-  as_many : length parts ≡ threads
-  as_many = runs.as_many ∙ length-replicate threads (keep [])
+-- A report of a run of parts that stand for what they keep
+module _ {Table : Type 0} {Behind : Table → Type 0} {A : Type 0} (keep : List EventRecord → A) (stands : A → Record → Type 0) (into : (kept : A) (h : Record) → KeeperFor keep kept h → stands kept h) (out : (kept : A) (h : Record) → stands kept h → KeeperFor keep kept h) (Same : A → A → Type 0) (job : Job) (observed : Observed A Table Behind) (has : HasObserved stands Same job (replicate job.settings.threads (keep [])) observed) where
+  abbrev threads : ℕ
+  threads = job.settings.threads
 
-  -- each part kept what its thread heard
-  keeps-at : (k : ℕ) (d : A) → k < threads → KeeperFor keep (slice_index_or parts k d) (record_at runs.answer runs.registered k (heard_of run H k) (runs.unheard k) nothing_called)
+  abbrev heard_at : ℕ → List Item
+  heard_at k = heard_of (run_of observed.report) observed.report.history k
+
+  threads-same : observed.report.threads ≡ threads
+  threads-same = threads-are job observed.report has.observes
+
+  -- what each part has come to that was told nothing before
+  abbrev after-at : ℕ → Record
+  after-at k = record_at has.runs.answer has.runs.registered k (heard_at k) (has.runs.unheard k) nothing_called
+
+  at : (k : ℕ) → IsAt has.runs.answer has.runs.registered k (heard_at k) nothing_called (after-at k)
+  at k = is-at has.runs.answer has.runs.registered k (heard_at k) (has.runs.unheard k) nothing_called
+
+  keeps-at : (k : ℕ) (d : A) → k < threads → KeeperFor keep (slice_index_or observed.parts.items k d) (after-at k)
   keeps-at k d below =
-      out _ _ (part-at stands serial run cause H (replicate threads (keep [])) parts runs k (omega (arith, below, length-replicate threads (keep []))) d nothing_called
+      out _ _ (part-at stands observed.report.serial (run_of observed.report) observed.report.cause observed.report.history (replicate threads (keep [])) observed.parts.items has.runs k (omega (arith, below, length-replicate threads (keep []))) d nothing_called
       (rw (get_or-replicate threads k (keep []) d below) (into (keep []) nothing_called (fresh-keeper keep))))
 
-  calls-at : (k : ℕ) → (record_at runs.answer runs.registered k (heard_of run H k) (runs.unheard k) nothing_called).calls ≡ heard_of run H k
-  calls-at k = (is-at runs.answer runs.registered k (heard_of run H k) (runs.unheard k) nothing_called).calls
-
-  -- so nothing was stored
-  parts-silent : run.threads ≡ threads → HearsSilent run H
-  parts-silent same = λ k below. silent-each (heard_of run H k) (subst StoresNothing (calls-at k) (keeps-at k (keep []) (omega (arith, below, same))).silent)
-
-  -- and all callbacks of the profile were registered
-  parts-all : run.mask ≡ PROFILE_MASK
-  parts-all =
-      let starts = subst (λ starts. StartedWith 1 PROFILE_MASK starts) (is-at runs.answer runs.registered 0 (heard_of run H 0) (runs.unheard 0) nothing_called).started (keeps-at 0 (keep []) (omega (arith, some))).started in
-      let started = starts 0 (record { answer = 0; mask = 0 }) (omega arith) in
-      runs.mask_is ∙ ap (λ answer. mask_of answer runs.registered) started.0 ∙ started.1
-
-  -- each part kept its share of the run's records
-  parts-kept : Legal run H → run.threads ≡ threads → HearsOwn run H → AreKept keep (records_of run H) parts
-  parts-kept legal same own =
-      kept-shares keep run H threads parts as_many (λ k d below. subst (λ calls. slice_index_or parts k d ≡ keep (map record_of calls)) (calls-at k) (keeps-at k d below).events) (omega (arith, some, same)) legal same own
-
--- so for a report of a run of such parts: all callbacks were registered, nothing was stored, and each part keeps its share of the run's records
-pub has_kept :
-    {Table : Type 0} {Behind : Table → Type 0} {A : Type 0} (keep : List EventRecord → A) (stands : A → Record → Type 0) (into : (kept : A) (h : Record) → KeeperFor keep kept h → stands kept h) (out : (kept : A) (h : Record) → stands kept h → KeeperFor keep kept h) (Same : A → A → Type 0) (job : Job) (observed : Observed A Table Behind)
-    → HasObserved stands Same job (replicate job.settings.threads (keep [])) observed → HasKept keep job observed
-has_kept keep stands into out Same job observed has =
-    let report = observed.report in
-    let threads = threads-are job report has.observes in record {
-      observes = has.observes;
-      stays = record {
-        mask_is = parts-all keep stands into out report.serial (run_of report) report.cause report.history job.settings.threads observed.parts.items job.some has.runs;
-        silent = parts-silent keep stands into out report.serial (run_of report) report.cause report.history job.settings.threads observed.parts.items job.some has.runs threads;
-      };
-      kept = parts-kept keep stands into out report.serial (run_of report) report.cause report.history job.settings.threads observed.parts.items job.some has.runs has.observes.to.legal threads has.observes.to.own;
-      printed = has.printed;
-    }
+  -- all callbacks were registered, nothing was stored, and each part keeps its share of the run's records
+  pub has_kept : HasKept keep job observed
+  has_kept =
+      let starts = subst (λ starts. StartedWith 1 PROFILE_MASK starts) (at 0).started (keeps-at 0 (keep []) (omega (arith, job.some))).started in
+      let started = starts 0 (record { answer = 0; mask = 0 }) (omega arith) in record {
+        observes = has.observes;
+        stays = record {
+          mask_is = has.runs.mask_is ∙ ap (λ answer. mask_of answer has.runs.registered) started.0 ∙ started.1;
+          silent = λ k below. silent-each (heard_at k) (subst StoresNothing (at k).calls (keeps-at k (keep []) (omega (arith, below, threads-same))).silent);
+        };
+        kept =
+            kept-shares keep (run_of observed.report) observed.report.history threads observed.parts.items (has.runs.as_many ∙ length-replicate threads (keep []))
+            (λ k d below. subst (λ calls. slice_index_or observed.parts.items k d ≡ keep (map record_of calls)) (at k).calls (keeps-at k d below).events) (omega (arith, job.some, threads-same)) has.observes.to.legal threads-same has.observes.to.own;
+        printed = has.printed;
+      }
 
 -- a part that keeps all keeps its share
 pub kept-shared : (events : List EventRecord) (parts : List (List EventRecord)) → AreKept (λ (events : List EventRecord). events) events parts → AreShared events parts

@@ -16,12 +16,13 @@ use crate::runner::Runner;
 use crate::text::program_for;
 use ompt_words::{Command, RunOutput, Settings};
 use run_edges::{Sink, Source};
-use std::alloc::AllocError;
+use std::alloc::{AllocError, Global};
 use tool_report::{Profile, Recorder, Timeline};
 
 /// Reads the program, or makes it for `gen`, runs it with these settings, and writes what the command writes.
 pub(crate) fn run_settings<X: Runner, S: Source, O: Sink>(
     runner: &X,
+    alloc: Global,
     settings: Settings,
     source: &mut S,
     out: &mut O,
@@ -35,11 +36,16 @@ pub(crate) fn run_settings<X: Runner, S: Source, O: Sink>(
     ensures guests { IfSome result.ran (GuestsAfter (λ guest h.
         (GuestTool-box guest).stands_for guest.value h) guests.items) }
 {
-    let loaded = match program_for(runner.alloc(), settings.command, source) {
+    let loaded = match program_for(alloc, settings.command, source) {
         Ok(loaded) => loaded,
         Err(end) => return without_run(end),
     };
-    match run_command(runner, Job { loaded, settings }, guests, out) {
+    let job = Job {
+        loaded,
+        settings,
+        alloc,
+    };
+    match run_command(runner, job, guests, out) {
         Ok(ended) => Outcome {
             end: ended.end,
             ran: Some(ended.report),

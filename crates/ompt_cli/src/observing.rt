@@ -4,7 +4,6 @@ ghost use Rattle.std.specs.Prelude.{◌≡◌, IfOk, List, length, true};
 ghost use Rattle.team_run.specs.Program.{IsRan, run_of};
 ghost use Rattle.ompt_cli.specs.{declared.job.Job.Job, Loading.IsOf, Reports.HasObserved};
 
-use crate::guests::Guests;
 use crate::job::Job;
 use crate::report::{ProgramTree, Report};
 use ompt_words::Settings;
@@ -26,59 +25,57 @@ pub(crate) struct Observed<P> {
 /// What a run gave, unless there was no memory for it. A run that found none for its first entry is none.
 pub(crate) type Seen<P> = Result<Observed<P>, AllocError>;
 
-/// Runs a serial job. Part t is called for the events of thread t. The guests of the report are these.
-pub(crate) fn observe_alone<P: ToolPart>(
-    alloc: Global,
-    job: Job,
-    parts: Vec<P>,
-    guests: Guests,
-) -> Seen<P>
+/// Runs a serial job. Part t is called for the events of thread t. The report has no guests.
+pub(crate) fn observe_alone<P: ToolPart>(job: Job, parts: Vec<P>) -> Seen<P>
     requires serial { job.settings.serial ≡ true }
     requires parts { length parts.items ≡ job.settings.threads }
-    ensures observed { IfOk result (HasObserved P.stands_for P.same job parts.items) }
-    ensures guests { IfOk result (λ observed. observed.report.guests ≡ guests) }
+    ensures { IfOk result (HasObserved P.stands_for P.same job parts.items) }
 {
-    let Job { loaded, settings } = job;
+    let Job {
+        loaded,
+        settings,
+        alloc,
+    } = job;
     let program = ProgramTree::of(&loaded);
     let (threads, steps) = (settings.threads, settings.steps);
     let ran = run_serial(alloc, loaded.program, threads, steps, parts)?;
-    Ok(with_report(settings, program, ran, guests))
+    Ok(with_report(alloc, settings, program, ran))
 }
 
 /// Does what [`observe_alone`] does for each job, by threads where it isn't serial.
 pub(crate) fn observe<R: Threads + Wait + Sync, P: ToolPart>(
     rt: &R,
-    alloc: Global,
     job: Job,
     parts: Vec<P>,
-    guests: Guests,
 ) -> Seen<P>
-    requires parts { length parts.items ≡ job.settings.threads }
-    ensures observed { IfOk result (HasObserved P.stands_for P.same job parts.items) }
-    ensures guests { IfOk result (λ observed. observed.report.guests ≡ guests) }
+    requires { length parts.items ≡ job.settings.threads }
+    ensures { IfOk result (HasObserved P.stands_for P.same job parts.items) }
 {
     if job.settings.serial {
-        return observe_alone(alloc, job, parts, guests);
+        return observe_alone(job, parts);
     }
-    let Job { loaded, settings } = job;
+    let Job {
+        loaded,
+        settings,
+        alloc,
+    } = job;
     let program = ProgramTree::of(&loaded);
     let (threads, steps) = (settings.threads, settings.steps);
     let ran = run_threads(rt, alloc, loaded.program, threads, steps, parts)?;
-    Ok(with_report(settings, program, ran, guests))
+    Ok(with_report(alloc, settings, program, ran))
 }
 
-/// What a run of this program with these settings gave, with these guests in its report.
+/// What a run of this program with these settings gave.
 fn with_report<P: ToolPart>(
+    alloc: Global,
     settings: Settings,
     program: ProgramTree,
     ran: Ran<P>,
-    guests: Guests,
 ) -> Observed<P>
-    ensures observed { (job : Job) (parts : List P) → settings ≡ job.settings → IsOf job.loaded program →
+    ensures { (job : Job) (parts : List P) → settings ≡ job.settings → IsOf job.loaded program →
         IsRan P.stands_for P.same settings.serial
         (run_of program.tree.value settings.threads settings.steps ran) parts ran →
         HasObserved P.stands_for P.same job parts result }
-    ensures guests { result.report.guests ≡ guests }
 {
     Observed {
         report: Report {
@@ -90,7 +87,7 @@ fn with_report<P: ToolPart>(
             steps: settings.steps,
             serial: settings.serial,
             history: ran.history,
-            guests,
+            guests: Vec::new(alloc),
         },
         parts: ran.parts,
         text: ran.text,

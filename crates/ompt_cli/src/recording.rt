@@ -37,8 +37,9 @@ pub(crate) fn record<X: Runner, O: Sink>(
         O.held O.faults job guests.items out.old out.new ended.end ended.report) }
     ensures untouched { OnErr result (out.new ≡ out.old) }
 {
+    let alloc = job.alloc;
     let Observed { report, parts, .. } = run_kept::<X, Recorder>(runner, job, guests)?;
-    let end = write_trace_of_run(runner.alloc(), report.threads, report.cause, &parts, out);
+    let end = write_trace_of_run(alloc, report.threads, report.cause, &parts, out);
     Ok(AfterRun { end, report })
 }
 

@@ -8,7 +8,7 @@ use crate::guests::Guests;
 use crate::job::Job;
 use crate::keepers::{Keeper, keepers};
 use crate::observing::{Observed, Seen};
-use crate::report::AfterRun;
+use crate::report::{AfterRun, Report};
 use crate::runner::Runner;
 use crate::writing::write_made;
 use ompt_words::Command;
@@ -32,13 +32,13 @@ pub(crate) fn report_kept<X: Runner, P: Keeper, O: Sink>(
         O.held O.faults job guests.items out.old out.new ended.end ended.report) }
     ensures untouched { OnErr result (out.new ≡ out.old) }
 {
-    let command = job.settings.command;
+    let (alloc, command) = (job.alloc, job.settings.command);
     let Observed {
         report,
         parts,
         text,
     } = run_kept::<X, P>(runner, job, guests)?;
-    let made = P::text(runner.alloc(), command, &parts, &text);
+    let made = P::text(alloc, command, &parts, &text);
     let end = write_made(report.cause, made, out);
     Ok(AfterRun { end, report })
 }
@@ -49,6 +49,13 @@ pub(crate) fn run_kept<X: Runner, P: Keeper>(runner: &X, job: Job, guests: Guest
     ensures kept { IfOk result (HasKept P.keep job) }
     ensures guests { IfOk result (λ observed. observed.report.guests ≡ guests) }
 {
-    let mut parts = keepers::<P>(runner.alloc(), job.settings.threads)?;
-    runner.run(job, &mut parts, guests)
+    let mut parts = keepers::<P>(job.alloc, job.settings.threads)?;
+    let observed = runner.run(job, &mut parts)?;
+    Ok(Observed {
+        report: Report {
+            guests,
+            ..observed.report
+        },
+        ..observed
+    })
 }

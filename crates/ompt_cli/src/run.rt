@@ -56,7 +56,7 @@ pub(crate) fn run_history<X: Runner, O: Sink>(
         O.held O.faults job guests.items out.old out.new ended.end ended.report) }
     ensures untouched { OnErr result (out.new ≡ out.old) }
 {
-    let text = job.copied_text(runner.alloc())?;
+    let text = job.copied_text()?;
     let Served { report, .. } = serve(runner, job, guests)?;
     Ok(write_history_of_run(report, text, out))
 }
@@ -72,7 +72,7 @@ fn serve<X: Runner>(runner: &X, job: Job, guests: Guests) -> Result<Served, Allo
     ensures printed { IfOk result (λ served.
         served.text.items ≡ (after (run_of served.report) served.report.history).world.store.text) }
 {
-    let Handing { parts, waiting } = hand_out_all(runner.alloc(), job.settings.threads, guests)?;
+    let Handing { parts, waiting } = hand_out_all(job.alloc, job.settings.threads, guests)?;
     let Observed {
         report,
         parts,
@@ -98,12 +98,13 @@ pub(crate) fn run_profiled<X: Runner, O: Sink>(
         O.held O.faults job guests.items out.old out.new ended.end ended.report) }
     ensures untouched { OnErr result (out.new ≡ out.old) }
 {
+    let alloc = job.alloc;
     let Observed {
         report,
         parts,
         text,
     } = serve_profiled(runner, job, guests)?;
-    let made = with_profile(runner.alloc(), text, &parts);
+    let made = with_profile(alloc, text, &parts);
     let end = write_made(report.cause, made, out);
     Ok(AfterRun { end, report })
 }
@@ -131,8 +132,8 @@ fn serve_profiled<X: Runner>(runner: &X, job: Job, guests: Guests) -> Seen<Profi
     ensures counted { IfOk result (λ counted.
         AreKept counts_of (records_of (run_of counted.report) counted.report.history) counted.parts.items) }
 {
-    let Handing { parts, waiting } = hand_out_all(runner.alloc(), job.settings.threads, guests)?;
-    let Joined { parts, room, .. } = join_all(runner.alloc(), parts)?;
+    let Handing { parts, waiting } = hand_out_all(job.alloc, job.settings.threads, guests)?;
+    let Joined { parts, room, .. } = join_all(job.alloc, parts)?;
     let Observed {
         report,
         parts,

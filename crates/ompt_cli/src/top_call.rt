@@ -100,7 +100,7 @@ pub fn top_alone<S: Source, O: Sink, E: Sink>(
             if !settings.serial {
                 return Err(ByThreads { settings, guests });
             }
-            let outcome = run_settings(&Alone(alloc), settings, source, out, guests);
+            let outcome = run_settings(&Alone, alloc, settings, source, out, guests);
             Ok(tell(outcome, err))
         }
         Ok(Request::Read(command)) => {
@@ -134,10 +134,8 @@ fn top_by_threads<R: Threads + Wait + Sync, S: Source, O: Sink, E: Sink>(
         (GuestTool-box guest).stands_for guest.value h) asked.guests.items) }
 {
     let ByThreads { settings, guests } = asked;
-    tell(
-        run_settings(&WithThreads(rt, alloc), settings, source, out, guests),
-        err,
-    )
+    let outcome = run_settings(&WithThreads(rt), alloc, settings, source, out, guests);
+    tell(outcome, err)
 }
 
 /// Shows the text that the words ask for, or refuses them. Nothing is read.
