@@ -25,12 +25,8 @@ record Left (S : State) : Type 0 where
   outside : pending_at S t ≡ None
 
 -- .. where the run is halted
-abbrev LeftWhere : State → Option Halt → Type 0
-LeftWhere S None = Unit {0}
-LeftWhere S (Some halt) = Left S
-
 abbrev LeavesOne : State → Type 0
-LeavesOne S = LeftWhere S S.halt
+LeavesOne S = (halt : Halt) → S.halt ≡ Some halt → Left S
 
 -- a thread that has a turn hasn't ended
 stage-in : (W : World) (t : ℕ) (now : ThreadStage) → goes_on (arrival_at W t now) ≡ true → is_out now ≡ false
@@ -45,29 +41,18 @@ enabled-in S t goes = stage-in S.world t (thread_at S.world t).stage (and_parts 
 
 -- where the run isn't halted nothing is asked
 none-left : (S : State) → S.halt ≡ None → LeavesOne S
-none-left S none = subst (LeftWhere S) (sym none) tt
-
--- one thread that is left is enough, halted or not
-one-left : (S : State) (halt : Option Halt) → Left S → LeftWhere S halt
-one-left S None left = tt
-one-left S (Some halt) left = left
-
--- where the thread that is left stays so, one is left still
-still-left : (S after : State) (halt : Option Halt) → (Left S → Left after) → LeftWhere S halt → LeftWhere after halt
-still-left S after None keeps left = tt
-still-left S after (Some halt) keeps left = keeps left
+none-left S none halt is = let wrong : None ≡ Some halt = sym none ∙ is in absurd cc
 
 -- a turn that halts the run leaves its thread
 turn-leaves : (run : Run) (S : State) (t : ℕ) (o : Outcome) → enabled S t ≡ true → (turn run S t).outcome ≡ o → Turned run (QuietWorld t S.world) t (turn run S t).state.world o → LeavesOne (turn run S t).state
 turn-leaves run S t outcome.Idle goes is quiet = absurd (turn-not_idle run S t goes is)
 turn-leaves run S t outcome.Quiet goes is quiet = none-left (turn run S t).state (turn-quiet run S t goes is).halt
 turn-leaves run S t (outcome.Happens e) goes is quiet = none-left (turn run S t).state (turn-happens run S t e goes is).halt
-turn-leaves run S t (outcome.Halts halt) goes is quiet =
-    one-left (turn run S t).state (turn run S t).state.halt (record {
-      t = t;
-      is_in = rw (quiet.alike.thread t).stage (enabled-in S t goes);
-      outside = ap (λ (pending : List (Option Callback)). slice_index_or pending t None) (halts-pending run S t halt is) ∙ (turn-goes S t goes).outside;
-    })
+turn-leaves run S t (outcome.Halts halt) goes is quiet = λ other halted. record {
+  t = t;
+  is_in = rw (quiet.alike.thread t).stage (enabled-in S t goes);
+  outside = ap (λ (pending : List (Option Callback)). slice_index_or pending t None) (halts-pending run S t halt is) ∙ (turn-goes S t goes).outside;
+}
 
 -- a thread inside a callback isn't the one that is left
 apart : (S : State) (t : ℕ) (callback : Callback) (left : Left S) → pending_at S t ≡ Some callback → left.t ≡ t → ⊥
@@ -76,13 +61,11 @@ apart S t callback left is same = let other : pending_at S t ≡ None = subst (�
 -- a store keeps each thread's stage, and the other threads' callbacks
 put-leaves : (S : State) (t : ℕ) (target : Target) (word : ℕ) (callback : Option Callback) → pending_at S t ≡ callback → LeavesOne S → LeavesOne (put_from S t target word callback)
 put-leaves S t target word None is left = left
-put-leaves S t target word (Some callback) is left =
-    let after = put_from S t target word (Some callback) in
-    still-left S after S.halt (λ one. record {
-      t = one.t;
-      is_in = rw ((alike-stored S.world target word).thread one.t).stage one.is_in;
-      outside = at-set (λ (pending : Option Callback). pending ≡ None) None S.pending t one.t (Some (record callback { stores = callback.stores + 1 })) one.outside (λ same. absurd (apart S t callback one is same));
-    }) left
+put-leaves S t target word (Some callback) is left = λ halt halted. let one = left halt halted in record {
+  t = one.t;
+  is_in = rw ((alike-stored S.world target word).thread one.t).stage one.is_in;
+  outside = at-set (λ (pending : Option Callback). pending ≡ None) None S.pending t one.t (Some (record callback { stores = callback.stores + 1 })) one.outside (λ same. absurd (apart S t callback one is same));
+}
 
 -- a thread that is summoned and hadn't ended hasn't ended
 made-in : (now : ThreadStage) → is_out now ≡ false → is_out (stage_once_made now) ≡ false
@@ -120,13 +103,11 @@ module _ (W : World) (t u : ℕ) (other : u ≡ t → ⊥) (is : IsIn (thread_at
 -- the thread that is left is inside no callback, so no Back is its own
 back-leaves : (S : State) (t : ℕ) (callback : Option Callback) → pending_at S t ≡ callback → LeavesOne S → LeavesOne (back_from S t callback)
 back-leaves S t None is left = left
-back-leaves S t (Some callback) is left =
-    let after = back_from S t (Some callback) in
-    still-left S after S.halt (λ one. record {
-      t = one.t;
-      is_in = back-in S.world t one.t (apart S t callback one is) one.is_in callback.event;
-      outside = at-set (λ (pending : Option Callback). pending ≡ None) None S.pending t one.t None one.outside (λ same. refl);
-    }) left
+back-leaves S t (Some callback) is left = λ halt halted. let one = left halt halted in record {
+  t = one.t;
+  is_in = back-in S.world t one.t (apart S t callback one is) one.is_in callback.event;
+  outside = at-set (λ (pending : Option Callback). pending ≡ None) None S.pending t one.t None one.outside (λ same. refl);
+}
 
 -- each entry that may stand
 entry-leaves : (run : Run) (S : State) (t : ℕ) (what : What) → IsTrue (may run S t what) → LeavesOne S → LeavesOne (does run S t what)
@@ -145,11 +126,12 @@ over-out [] u over = refl
 over-out (thread ∷ threads) zero over = (and_parts (is_out thread.stage) (list_all (λ (thread : Thread). is_out thread.stage) threads) over).0
 over-out (thread ∷ threads) (suc u) over = over-out threads u (and_parts (is_out thread.stage) (list_all (λ (thread : Thread). is_out thread.stage) threads) over).1
 
--- then none is left, and the run isn't halted
-not-left : (S : State) (halt : Option Halt) → LeftWhere S halt → threads_over S.world ≡ true → halt ≡ None
-not-left S None left over = refl
-not-left S (Some halt) left over = absurd (true≢false (sym (over-out S.world.threads left.t over) ∙ left.is_in))
-
--- where every thread that was made has ended, no trap or limit was met
+-- where every thread that was made has ended, no trap or limit was met: none is left
 pub not_halted : (run : Run) (history : List Entry) → Legal run history → threads_over (after run history).world ≡ true → (after run history).halt ≡ None
-not_halted run history legal over = not-left (after run history) (after run history).halt (entries-leave run (first run) history legal tt) over
+not_halted run history legal over = by (after run history).halt refl
+  where
+    by : (halt : Option Halt) → (after run history).halt ≡ halt → halt ≡ None
+    by None is = refl
+    by (Some halt) is =
+        let left = entries-leave run (first run) history legal (λ halt is. absurd cc) halt is in
+        absurd (true≢false (sym (over-out (after run history).world.threads left.t over) ∙ left.is_in))
