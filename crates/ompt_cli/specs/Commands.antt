@@ -61,6 +61,11 @@ written_by (Running output.Profile) text run cause history = (after run history)
 written_by (Generating blocks) text run cause history =
     summary_of (generated blocks) (records_of run history) (after run history).world.store.text
 
+-- that is what this makes of the events of the run and of what the program printed
+abbrev pub IsWrittenBy : (Command → List EventRecord → List ℕ → List ℕ) → Command → Type 0
+IsWrittenBy text_of command = (text : List ℕ) (run : Run) (cause : Cause) (history : List Entry) →
+    written_by command text run cause history ≡ text_of command (records_of run history) (after run history).world.store.text
+
 -- what a command writes of its run, if there was one
 abbrev pub run_text : {Table : Type 0} {Behind : Table → Type 0} → Option (Report Table Behind) → List ℕ
 run_text None = []

@@ -8,9 +8,8 @@ ghost use Rattle.ompt_cli.specs.{Guests.GuestsAfter, Reports.Reports, Top.Carrie
 use crate::end::End;
 use crate::guests::Guests;
 use crate::job::Job;
-use crate::recording::record;
 use crate::report::{AfterRun, Outcome, without_run};
-use crate::reporting::report_kept;
+use crate::reporting::{record, report_kept};
 use crate::run::{run_history, run_printed, run_profiled};
 use crate::runner::Runner;
 use crate::text::program_for;

@@ -38,14 +38,12 @@
 mod commands;
 mod end;
 mod guests;
-mod history_writing;
 mod job;
 mod keepers;
 mod laws;
 mod observing;
 mod program_words;
 mod read_commands;
-mod recording;
 mod report;
 mod reporting;
 mod rerunning;
