@@ -1,7 +1,7 @@
 //! The texts that run.
 
 ghost use Rattle.std.specs.Prelude.{ℕ, ◌≡◌, ◌≢◌, ◌≤◌, IfOk, IfErr, Some, length};
-ghost use Rattle.ompt_cli.specs.Names.{Rose, generated};
+ghost use Rattle.ompt_cli.specs.Names.{Rose};
 ghost use Rattle.ompt_cli.specs.{Loading.EndsFor, Loading.IsLoaded, Text.IsReadAs, Text.Spells, Text.text_for};
 
 use crate::end::{End, Refusal};
@@ -31,24 +31,12 @@ pub(crate) fn program_for<S: Source>(
     ensures unread { (blocks : ℕ) → command ≡ Command.Generate blocks → source.new ≡ source.old }
 {
     match command {
-        Command::Generate(blocks) => generated_program(alloc, blocks),
+        Command::Generate(blocks) => match generated_text(alloc, blocks) {
+            Ok(made) => load(alloc, made),
+            Err(_) => Err(End::Memory),
+        },
         _ => read_program_of(alloc, source),
     }
-}
-
-/// The program with so many generated blocks.
-fn generated_program(alloc: Global, blocks: u16) -> Result<Loaded, End>
-    ensures loaded { IfOk result (IsLoaded (Some (generated blocks))) }
-    ensures ended { IfErr result (EndsFor (Some (generated blocks))) }
-    ensures read { result ≢ Err End.ReadFault }
-{
-    let Ok(text) = generated_text(alloc, blocks) else {
-        return Err(End::Memory);
-    };
-    if text.len() > TEXT_LIMIT as usize {
-        return Err(End::Refused(Refusal::TooLong));
-    }
-    load(alloc, text)
 }
 
 /// Reads the text to its end. It spells the program, or the command ends for want of a program that runs.
@@ -68,11 +56,13 @@ fn read_program_of<S: Source>(alloc: Global, source: &mut S) -> Result<Loaded, E
 
 /// The program that the text spells, with the text.
 fn load(alloc: Global, text: Vec<u8>) -> Result<Loaded, End>
-    requires { length text.items ≤ 65536 }
     ensures loaded { IfOk result (IsLoaded (Some text.items)) }
     ensures ended { IfErr result (EndsFor (Some text.items)) }
     ensures read { result ≢ Err End.ReadFault }
 {
+    if text.len() > TEXT_LIMIT as usize {
+        return Err(End::Refused(Refusal::TooLong));
+    }
     match program_of(alloc, &text) {
         Ok(program) => Ok(Loaded { program, text }),
         Err(end) => Err(end),
