@@ -1,8 +1,7 @@
 -- What a command comes to that has a text to run: the program that it spells, or an end before a run.
 use Rattle.std.specs.Prelude.{ℕ, ◌≡◌, List, Option, IfSome, IsSomeAnd}
-use Rattle.ompt_cli.specs.{Commands.IsBeforeRun, Commands.MayRefuse, Commands.MayRun, declared.end.Refusal.Refusal, declared.end.End.End}
-use Rattle.ompt_cli.specs.{declared.end.End.TheVariants.Refused, declared.job.Loaded.Loaded, declared.report.ProgramTree.ProgramTree}
-use Rattle.ompt_cli.specs.Text.{IsProgram, IsRefused, Spells}
+use Rattle.ompt_cli.specs.{Commands.IsBeforeRun, Commands.MayRefuse, Commands.MayRun, declared.end.Refusal.Refusal, declared.end.End.End, declared.end.End.TheVariants.Refused}
+use Rattle.ompt_cli.specs.{declared.job.Loaded.Loaded, declared.report.ProgramTree.ProgramTree, Text.IsProgram, Text.IsRefused, Text.Spells}
 
 -- contracts see the program and the text of what was loaded
 pub record IsOf (loaded : Loaded) (program : ProgramTree) : Type 0 where

@@ -1,13 +1,12 @@
 -- What a report says of its run.
 use Rattle.std.specs.Prelude.{ℕ, ◌≡◌, ◌≢◌, List, Option, Some}
-use Rattle.std.specs.{declared.alloc.Global.Global, declared.dyn_box.DynBox.DynBox}
+use Rattle.std.specs.declared.{alloc.Global.Global, dyn_box.DynBox.DynBox}
 use Rattle.omp_model.specs.declared.cause.Cause.TheVariants as cause
 use Rattle.ompt_words.specs.declared.settings.RunOutput.TheVariants as output
 use Rattle.team_run.specs.{Program.RunsTo, Serving.AreSame, Serving.RunsParts, Standing.HearsSilent}
-use Rattle.ompt_cli.specs.Names.{PROFILE_MASK, AreAlways, after, records_of, EventRecord, AreKept, Record, Recording, Running, trace_of}
-use Rattle.ompt_cli.specs.Names.{IsTrace, IsCertificate, IsHistoryFile}
+use Rattle.ompt_cli.specs.Names.{PROFILE_MASK, AreAlways, after, records_of, EventRecord, AreKept, Record, Recording, Running, trace_of, IsTrace, IsCertificate, IsHistoryFile}
 use Rattle.ompt_cli.specs.Commands.{CountsFaults, EndsAs, HasGuests, HasWritten, program_in, run_of, run_text, settings_in, text_in}
-use Rattle.ompt_cli.specs.declared.{end.End.End, end.End.TheVariants.Memory, end.End.TheVariants.WriteFault, job.Job.Job, observing.Observed.Observed}
+use Rattle.ompt_cli.specs.{declared.end.End.End, declared.end.End.TheVariants.Memory, declared.end.End.TheVariants.WriteFault, declared.job.Job.Job, declared.observing.Observed.Observed}
 use Rattle.ompt_cli.specs.{declared.report.Report.Report, Guests.GuestsAfter, Histories.file_of_report, Runs.AreOutside}
 
 -- the report is of a run of this job

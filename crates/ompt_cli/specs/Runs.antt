@@ -1,7 +1,7 @@
 -- How a run has ended, whether one thread has all turns in the serial order or each thread number has a thread of its own.
 use Rattle.std.specs.Prelude.{ℕ, ⊤, ◌≡◌, ◌<◌, true, List, None}
-use Rattle.ompt_cli.specs.Names.{Cause, Entry, Run, pending_at, threads_over, main_returned, after}
 use Rattle.omp_model.specs.declared.cause.Cause.TheVariants as causes
+use Rattle.ompt_cli.specs.Names.{Cause, Entry, Run, pending_at, threads_over, main_returned, after}
 
 -- every thread that was made has ended, and main has returned
 pub record IsWhole (run : Run) (history : List Entry) : Type 0 where

@@ -1,8 +1,7 @@
 -- The texts that run, with their programs, and the refusals of all others.
 use Rattle.std.specs.Prelude.{ℕ, ◌≡◌, ◌<◌, ◌≤◌, List, [], ◌∷◌, length, Option, Some, None}
-use Rattle.ompt_cli.specs.Names.{Spot, Token, TokenFault, beginning, Reads, EndsIn, main_of, Tree, TreeView, root_tree, HasSyntaxFault}
-use Rattle.ompt_cli.specs.Names.{IsTreeOf, CheckFault, rule_fault_in, generated, Command}
 use Rattle.ompt_words.specs.declared.settings.Command.TheVariants.{Generate}
+use Rattle.ompt_cli.specs.Names.{Spot, Token, TokenFault, beginning, Reads, EndsIn, main_of, Tree, TreeView, root_tree, HasSyntaxFault, IsTreeOf, CheckFault, rule_fault_in, generated, Command}
 use Rattle.ompt_cli.specs.declared.end.Refusal.{Refusal, TheVariants.Tokens, TheVariants.Syntax, TheVariants.Rule, TheVariants.TooLong}
 
 -- the text that a command runs: what the source has left, and of `gen` the generated program

@@ -1,10 +1,9 @@
 -- The run of a program with these settings, what a run came to, and what it gave.
 use Rattle.std.specs.Prelude.{ℕ, ◌≡◌, ◌≢◌, ◌<◌, Bool, true, false, List, [], length, slice_index_or, Some}
-use Rattle.team_run.specs.Names.{Record, AreAlways, Cause, Entry, Legal, Serial, cause_of, after, heard_of, serial, Run}
 use Rattle.omp_model.specs.declared.cause.Cause.TheVariants as causes
 use Rattle.c_syntax.specs.language.Numbered.{TreeView}
-use Rattle.team_run.specs.{declared.ran.Ran.Ran, Serving.AreSame, Serving.RunsParts, Serving.called_for, Standing.HearsOwn}
-use Rattle.team_run.specs.{Standing.HearsSilent, Unheard.AreUnheard}
+use Rattle.team_run.specs.Names.{Record, AreAlways, Cause, Entry, Legal, Serial, cause_of, after, heard_of, serial, Run}
+use Rattle.team_run.specs.{declared.ran.Ran.Ran, Serving.AreSame, Serving.RunsParts, Serving.called_for, Standing.HearsOwn, Standing.HearsSilent, Unheard.AreUnheard}
 
 -- the run of this program with this mask, so many threads and so many silent steps
 abbrev pub run_of_program : TreeView → ℕ → ℕ → ℕ → Run

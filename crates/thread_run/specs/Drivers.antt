@@ -1,7 +1,7 @@
 -- The drivers of a run, while they are started, and once they have come back.
 use Rattle.std.specs.Prelude.{ℕ, ◌≡◌, ◌≢◌, ◌<◌, false, List, [], length, get_or, Some, Result, Ok, Err}
-use Rattle.team_run.specs.{Names.Record, Names.Cause, Names.Run, Names.Closed, Names.PassView, Program.HaveServed}
 use Rattle.omp_model.specs.declared.cause.Cause.TheVariants as causes
+use Rattle.team_run.specs.{Names.Record, Names.Cause, Names.Run, Names.Closed, Names.PassView, Program.HaveServed}
 use Rattle.thread_run.specs.{declared.team.Slot.Slot, Driving.IsDriven}
 
 -- the driver of a thread, whose part was this one at first
