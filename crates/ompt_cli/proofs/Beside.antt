@@ -61,8 +61,7 @@ module _ {G : Type 0} {B : Type 0} (box : G → B) (stands : B → Record → Ty
 
   pub joint-mask : (number : ℕ) → is_registered run.mask number ≡ (is_registered (mask_of masks.first_answer (joins.was_asked p).registered) number || is_registered PROFILE_MASK number)
   joint-mask number =
-      ap (λ (mask : ℕ). is_registered mask number) (mask-union ∙ ap (λ (mask : ℕ). bit_or mask PROFILE_MASK) (joins.was_asked p).mask_is)
-      ∙ in-union (mask_of masks.first_answer (joins.was_asked p).registered) PROFILE_MASK number
+      ap (λ (mask : ℕ). is_registered mask number) (mask-union ∙ ap (λ (mask : ℕ). bit_or mask PROFILE_MASK) (joins.was_asked p).mask_is) ∙ in-union (mask_of masks.first_answer (joins.was_asked p).registered) PROFILE_MASK number
 
   counts-at : (k : ℕ) → k < run.threads → profile_in (slice_index_or others k e) ≡ counts_of (map record_of (heard_of run H k))
   counts-at k below =
@@ -197,8 +196,7 @@ module _ {G : Type 0} {B : Type 0} (box : G → B) (stands : B → Record → Ty
       → AreSame (SameProfiled (SamePart box stands Same)) joined others → GuestsJoin stands Same run cause H guests (guests_of box (map part_in others) ++ rest)
   guests_beside itself onward guests rest [] joined others each out joins runs kinds = absurd (omega (arith, some, each))
   guests_beside itself onward guests rest (p ∷ ps) [] others each out joins runs kinds = absurd (omega (arith, joins.as_many))
-  guests_beside itself onward guests rest (p ∷ ps) (j ∷ js) others each out joins runs kinds =
-      guests-join box stands Same serial run cause H p ps masks j (j ∷ js) others each joins runs itself onward kinds guests rest out
+  guests_beside itself onward guests rest (p ∷ ps) (j ∷ js) others each out joins runs kinds = guests-join box stands Same serial run cause H p ps masks j (j ∷ js) others each joins runs itself onward kinds guests rest out
 
   pub profiles_beside : (parts : List (Handed G)) (joined others : List (Profiled (Handed G))) → length parts ≡ run.threads → AreJoined (For box stands Same) (SamePart box stands Same) parts masks joined
       → RunsParts (ProfiledFor (For box stands Same)) serial run cause H joined others → Legal run H → HearsOwn run H → AreKept counts_of (records_of run H) (map profile_in others)

@@ -13,8 +13,7 @@ abbrev pub record_at : ℕ → ℕ → ℕ → List Item → Bool → Record →
 record_at answer registered zero items unheard h = record_of_first answer registered items unheard h
 record_at answer registered (suc k) items unheard h = called_for items unheard h
 
-pub part-at :
-    {P : Type 0} (stands_for : P → Record → Type 0) (serial : Bool) (run : Run) (cause : Cause) (H : List Entry) (parts others : List P) (runs : RunsParts stands_for serial run cause H parts others)
+pub part-at : {P : Type 0} (stands_for : P → Record → Type 0) (serial : Bool) (run : Run) (cause : Cause) (H : List Entry) (parts others : List P) (runs : RunsParts stands_for serial run cause H parts others)
     → (k : ℕ) → k < length parts → (d : P) (h : Record) → stands_for (slice_index_or parts k d) h → stands_for (slice_index_or others k d) (record_at runs.answer runs.registered k (heard_of run H k) (runs.unheard k) h)
 part-at stands_for serial run cause H parts others runs zero below d h stands = runs.first d h stands
 part-at stands_for serial run cause H parts others runs (suc k) below d h stands = runs.each (suc k) (omega arith) below d h stands

@@ -309,8 +309,7 @@ module _ {S O : Type 0} (left : S → Option (List ℕ)) (reads_failed : S → �
 -- what was read of the words is what is asked of them
 pub taken-as : (words : List (List ℕ)) (found given : Request) → found ≡ given → AreReadAs words found → ((other : Request) → AreReadAs words other → found ≡ other) → ((form : InForm words) → found ≡ request.Run (own_settings form))
     → ((command : ReadCommand) → ReadInForm words command → found ≡ request.Read command) → (AskInForm words → ⊥) → (HoldBoth words → ⊥) → AreTakenAs words given
-taken-as words found given is read exact form read_form no_help not_both =
-    subst (AreTakenAs words) is (record { read = read; exact = exact; form = form; read_form = read_form; no_help = no_help; not_both = not_both })
+taken-as words found given is read exact form read_form no_help not_both = subst (AreTakenAs words) is (record { read = read; exact = exact; form = form; read_form = read_form; no_help = no_help; not_both = not_both })
 
 -- settings that words ask for are in range
 pub in-range : (words : List (List ℕ)) (settings : Settings) → AreTakenAs words (request.Run settings) → AreInRange settings

@@ -54,8 +54,7 @@ module _ {Table : Type 0} {Behind : Table → Type 0} (report : Report Table Beh
 
   -- what is written of the run is what is written of the file
   pub filed-text : report.command ≡ Running output.History → report.cause ≢ causes.Memory → history_spelling (history_fields (file_of_report report)) ≡ run_text (Some report)
-  filed-text is found =
-      sym (unless-found report.cause _ found ∙ ap (λ (command : Command). written_by command (text_in report) (run_of report) report.cause report.history) is)
+  filed-text is found = sym (unless-found report.cause _ found ∙ ap (λ (command : Command). written_by command (text_in report) (run_of report) report.cause report.history) is)
 
   -- and the file is a certificate
   pub filed : (job : Job) → Observes job report → report.cause ≢ causes.Memory → FitsFile (file_of_report report) → FitsCause report.cause → HasCertificate report

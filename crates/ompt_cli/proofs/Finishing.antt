@@ -52,8 +52,7 @@ finished run history cause legal same = (whole-from run history cause (after run
 
 -- no thread is inside a callback
 pub parts-outside : {P : Type 0} (stands_for : P → Record → Type 0) (serial : Bool) (run : Run) (cause : Cause) (history : List Entry) (parts others : List P) → cause ≢ causes.Memory → RunsParts stands_for serial run cause history parts others → AreOutside run history
-parts-outside stands_for true run cause history parts others found runs =
-    λ k below. all_none-at (after run history).pending k (subst (IsUnheard run history) (runs.are_unheard.all_heard found) runs.are_unheard.is_unheard)
+parts-outside stands_for true run cause history parts others found runs = λ k below. all_none-at (after run history).pending k (subst (IsUnheard run history) (runs.are_unheard.all_heard found) runs.are_unheard.is_unheard)
 parts-outside stands_for false run cause history parts others found runs = λ k below. subst (LeftAt run history k) (runs.all_heard found k below) (runs.are_unheard k below)
 
 -- no thread is inside a callback where none of the run is

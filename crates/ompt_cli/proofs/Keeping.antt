@@ -17,8 +17,7 @@ from-less least more (event ∷ rest) less from = (omega (arith, less, from.0), 
 -- positions below a limit that rise from one on are from it on, and rise
 from-below : (limit least : ℕ) (events : List EventRecord) → AreBelow limit least events → AreFrom least events
 from-below limit least [] below = tt
-from-below limit least (event ∷ rest) below =
-    (below.0, from-less least (event.seq + 1) rest (omega (arith, below.0)) (from-below limit (event.seq + 1) rest below.2))
+from-below limit least (event ∷ rest) below = (below.0, from-less least (event.seq + 1) rest (omega (arith, below.0)) (from-below limit (event.seq + 1) rest below.2))
 
 rising-below : (limit least : ℕ) (events : List EventRecord) → AreBelow limit least events → AreRising events
 rising-below limit least [] below = tt
@@ -57,8 +56,7 @@ kept-shares {A} keep run H threads parts as_many each some legal same own =
       shares = shares_of run H threads;
       shared = heard-shared run H threads some legal same own;
       kept = same_lists parts (map keep (shares_of run H threads)) (omega (arith, as_many, length-map (shares_of run H threads) keep, many))
-          (λ k d below. each k d (omega (arith, below, as_many))
-          ∙ ap keep (sym (get_or-map-range_with_len share 0 threads k k [] (omega (arith, below, as_many)) (omega arith)))
+          (λ k d below. each k d (omega (arith, below, as_many)) ∙ ap keep (sym (get_or-map-range_with_len share 0 threads k k [] (omega (arith, below, as_many)) (omega arith)))
           ∙ sym (get_or-map keep (shares_of run H threads) k [] d (omega (arith, below, as_many, many))));
     }
 

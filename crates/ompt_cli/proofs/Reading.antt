@@ -79,8 +79,7 @@ end_at-last spot (first ∷ front) last = end_at-last first.spot front last
 pub end-is : (text : List ℕ) (tokens : List Token) (end : Spot) → tokens_of text ≡ Ok tokens → ((front : List Token) (last : Token) → tokens ≡ front ++ last ∷ [] → end ≡ last.spot) → end ≡ end_of tokens
 end-is text tokens end are at_last =
     let ended = tokens-end text tokens are in
-    at_last ended.front ended.last ended.parts
-    ∙ sym (ap (λ list. end_of list) ended.parts ∙ end_at-last (record { line = 1; column = 1 }) ended.front ended.last)
+    at_last ended.front ended.last ended.parts ∙ sym (ap (λ list. end_of list) ended.parts ∙ end_at-last (record { line = 1; column = 1 }) ended.front ended.last)
 
 -- a text that isn't too long runs or is refused
 module _ (text : List ℕ) (short : length text ≤ 65536) where

@@ -14,8 +14,7 @@ use Rattle.ompt_cli.{specs.Histories.HasRerun, specs.Histories.IsCertified, spec
 -- what is so of each of the three ends with what is written at it
 by-end : (Has : End → Type 0) (text : List ℕ) (held after : Option (List ℕ)) (told : End) → (told ≡ Read) ⊎ ((told ≡ WriteFault) ⊎ (told ≡ Memory)) → HasWritten told text held after
     → (Appends held after text → Has Read) → (AppendsFront held after text → Has WriteFault) → (Keeps held after → Has Memory) → Has told
-by-end Has text held after told (inl is) written all front kept =
-    subst Has (sym is) (all (written.listed (λ same. let wrong : Read ≡ WriteFault = sym is ∙ same in cc) (λ same. let wrong : Read ≡ Memory = sym is ∙ same in cc)))
+by-end Has text held after told (inl is) written all front kept = subst Has (sym is) (all (written.listed (λ same. let wrong : Read ≡ WriteFault = sym is ∙ same in cc) (λ same. let wrong : Read ≡ Memory = sym is ∙ same in cc)))
 by-end Has text held after told (inr (inl is)) written all front kept = subst Has (sym is) (front (written.part is))
 by-end Has text held after told (inr (inr is)) written all front kept = subst Has (sym is) (kept (written.kept is))
 
@@ -29,13 +28,11 @@ written-rerun left held after file program told ends certified written =
 -- of the tasks of a nested trace, and nothing where there was no memory for their text
 module _ (left rest held after : Option (List ℕ)) (trace : Trace) (has : HasReadNested (Ok trace) left rest) (nested : IsNested trace) where
   pub tasks-told : {T E : Type 0} (items : T → List ℕ) (made : Result T E) (told : End) → (told ≡ Read) ⊎ ((told ≡ WriteFault) ⊎ (told ≡ Memory)) → IfErr made (λ fault. told ≡ Memory)
-      → IfOk made (λ lines. IsForestText trace.events (items lines)) → ((text : List ℕ) → IfOk made (λ lines. items lines ≡ text) → HasWritten told text held after)
-      → HasTasks told left rest held after
+      → IfOk made (λ lines. IsForestText trace.events (items lines)) → ((text : List ℕ) → IfOk made (λ lines. items lines ≡ text) → HasWritten told text held after) → HasTasks told left rest held after
   tasks-told items (Ok lines) told ends memory forest written =
       by-end (λ end. HasTasks end left rest held after) (items lines) held after told ends (written (items lines) refl)
       (λ all. (trace, has, nested, items lines, forest, all)) (λ front. (trace, has, nested, items lines, forest, front)) (λ kept. kept)
-  tasks-told items (Err fault) told ends memory forest written =
-      subst (λ (end : End). HasTasks end left rest held after) (sym memory) ((written [] tt).kept memory)
+  tasks-told items (Err fault) told ends memory forest written = subst (λ (end : End). HasTasks end left rest held after) (sym memory) ((written [] tt).kept memory)
 
 -- no file is longer than the longest one may be
 pub never-long : (left rest : Option (List ℕ)) (file : HistoryFile) → IsSomeAnd left (WritesHistory file) → ConsumesMore left rest HISTORY_LIMIT → ⊥
@@ -61,10 +58,8 @@ certificate-of file one other spells spelled certificate =
 
 -- a trace isn't refused: neither a front of it nor the whole
 never-refused : (text taken : List ℕ) (trace : Trace) (refusal : Refusal) → Writes trace text → IsRefusedInput (Some text) taken refusal → ⊥
-never-refused text taken trace refusal writes (inl front) =
-    (never_refused_trace trace text refusal writes).0 (record { front = taken; rest = front.0.0; whole = front.0.1; refuses = front.1 })
-never-refused text taken trace refusal writes (inr whole) =
-    (never_refused_trace trace text refusal writes).1 (subst (λ (bytes : List ℕ). IsTruncated bytes refusal) (sym whole.0) whole.1)
+never-refused text taken trace refusal writes (inl front) = (never_refused_trace trace text refusal writes).0 (record { front = taken; rest = front.0.0; whole = front.0.1; refuses = front.1 })
+never-refused text taken trace refusal writes (inr whole) = (never_refused_trace trace text refusal writes).1 (subst (λ (bytes : List ℕ). IsTruncated bytes refusal) (sym whole.0) whole.1)
 
 -- an input that was refused has no trace for its spelling
 refused-input : (left : Option (List ℕ)) (taken : List ℕ) (trace : Trace) (refusal : Refusal) → IsSomeAnd left (Writes trace) → IsRefusedInput left taken refusal → ⊥
@@ -72,8 +67,7 @@ refused-input None taken trace refusal is refused = is
 refused-input (Some text) taken trace refusal is refused = never-refused text taken trace refusal is refused
 
 -- so no command that reads it ends so
-pub trace_unrefused :
-    (command : ReadCommand) (left rest held after : Option (List ℕ)) (told : End) (trace : Trace) (refusal : Refusal) → IsSomeAnd left (Writes trace)
+pub trace_unrefused : (command : ReadCommand) (left rest held after : Option (List ℕ)) (told : End) (trace : Trace) (refusal : Refusal) → IsSomeAnd left (Writes trace)
     → HasRead command told left rest held after → told ≡ TraceRefused refusal → ⊥
 trace_unrefused command left rest held after told trace refusal is read same = by command (subst (λ (told : End). HasRead command told left rest held after) same read)
   where
@@ -85,17 +79,14 @@ trace_unrefused command left rest held after told trace refusal is read same = b
     by Tasks (answered, kept) = refused-input left answered.0 trace refusal is answered.1
 
 -- a nested trace has no first breach
-nested-unbroken :
-    (left rest : Option (List ℕ)) (trace : Trace) (breach : Breach) → IsSomeAnd left (Writes trace) → Nested trace.header trace.events trace.end
-    → HasChecked (checks.Broken breach) left rest → ⊥
+nested-unbroken : (left rest : Option (List ℕ)) (trace : Trace) (breach : Breach) → IsSomeAnd left (Writes trace) → Nested trace.header trace.events trace.end → HasChecked (checks.Broken breach) left rest → ⊥
 nested-unbroken None rest trace breach is nested broken = is
 nested-unbroken (Some text) rest trace breach is nested (taken, other, input, writes, first) =
     let same : other ≡ trace = (one_spelling other trace text text [] [] (subst (Writes other) (sym input) writes) is refl).0 in
     nested breach.rule breach.seq (subst (λ (of : Trace). BreaksRule of.header of.events of.end breach.rule breach.seq) same first.broken)
 
 -- so no command ends with a breach of it
-pub trace_unbroken :
-    (command : ReadCommand) (left rest held after : Option (List ℕ)) (told : End) (trace : Trace) (breach : Breach) → IsSomeAnd left (Writes trace)
+pub trace_unbroken : (command : ReadCommand) (left rest held after : Option (List ℕ)) (told : End) (trace : Trace) (breach : Breach) → IsSomeAnd left (Writes trace)
     → Nested trace.header trace.events trace.end → HasRead command told left rest held after → told ≡ Broken breach → ⊥
 trace_unbroken command left rest held after told trace breach is nested read same = by command (subst (λ (told : End). HasRead command told left rest held after) same read)
   where

@@ -19,8 +19,7 @@ told-served h items item = ap (λ calls. record h { calls = calls }) (append_ass
 
 -- what a thread has heard where more was heard
 pub heard_of-more : (run : Run) (H K : List Entry) (items : List Item) (k : ℕ) → heard run K ≡ heard run H ++ items → heard_of run K k ≡ heard_of run H k ++ on_thread k items
-heard_of-more run H K items k more =
-    ap (on_thread k) more ∙ filter-append (λ (item : Item). item.thread == k) (heard run H) items
+heard_of-more run H K items k more = ap (on_thread k) more ∙ filter-append (λ (item : Item). item.thread == k) (heard run H) items
 
 -- and where nothing more was
 pub heard_of-same : (run : Run) (H K : List Entry) (k : ℕ) → heard run K ≡ heard run H → heard_of run K k ≡ heard_of run H k
@@ -33,8 +32,7 @@ told-by false h items item = ap (λ more. served h more) (sym (append-nil items)
 
 -- the part of the thread is told of one item more, and the others are told of nothing
 told_on-served : (t k : ℕ) (h : Record) (items : List Item) (item : Item) → item.thread ≡ t → told_on t k item (served h items) ≡ served h (items ++ on_thread k (item ∷ []))
-told_on-served t k h items item is =
-    subst (λ u. told_on t k item (served h items) ≡ served h (items ++ cond (u == k) (item ∷ []) [])) (sym is) (told-by (t == k) h items item)
+told_on-served t k h items item is = subst (λ u. told_on t k item (served h items) ≡ served h (items ++ cond (u == k) (item ∷ []) [])) (sym is) (told-by (t == k) h items item)
 
 module _ {P : Type 0} (stands_for : P → Record → Type 0) (run : Run) where
   -- one step after another
@@ -52,8 +50,7 @@ module _ {P : Type 0} (stands_for : P → Record → Type 0) (run : Run) where
   }
 
   -- where one item more is heard, and the part of its thread was told of it
-  pub serves-told :
-      (parts others : List P) (H K : List Entry) (t : ℕ) (item : Item) → item.thread ≡ t → heard run K ≡ heard run H ++ item ∷ [] → length others ≡ length parts
+  pub serves-told : (parts others : List P) (H K : List Entry) (t : ℕ) (item : Item) → item.thread ≡ t → heard run K ≡ heard run H ++ item ∷ [] → length others ≡ length parts
       → ((k : ℕ) → k < length parts → Becomes stands_for parts others k (told_on t k item)) → Serves stands_for run parts H None others K
   serves-told parts others H K t item is more as_many each = record {
     as_many = as_many;
@@ -85,8 +82,7 @@ own-item : (t : ℕ) (item : Item) → item.thread ≡ t → on_thread t (item �
 own-item t item is = rw (is, eq-eqb t t refl) refl
 
 pub item-silent : (run : Run) (H K : List Entry) (t : ℕ) (item : Item) → item.thread ≡ t → heard run K ≡ heard run H ++ item ∷ [] → t < run.threads → HearsSilent run K → item.stores ≡ []
-item-silent run H K t item is more below silent =
-    (subst AreSilent (own-item t item is) (hears-back run H K (item ∷ []) more t below silent)).0
+item-silent run H K t item is more below silent = (subst AreSilent (own-item t item is) (hears-back run H K (item ∷ []) more t below silent)).0
 
 -- nothing is heard on a thread that the run doesn't have, where one item more is heard on another
 other-item : (t k : ℕ) (item : Item) → item.thread ≡ t → t < k → on_thread k (item ∷ []) ≡ []
@@ -101,12 +97,10 @@ own-unheard run H K same own = λ k past. heard_of-same run H K k same ∙ own k
 
 -- a slice of a whole vector, written back
 pub written-back : {P : Type 0} (new items : List P) (len : ℕ) → length new ≡ length items → length items ≡ len → take len (new ++ drop (length new) items) ≡ new
-written-back new items len same all =
-    ap (λ more. take len (new ++ more)) (drop_all (length new) items (omega (arith, same))) ∙ ap (take len) (append-nil new) ∙ take_all len new (omega (arith, same, all))
+written-back new items len same all = ap (λ more. take len (new ++ more)) (drop_all (length new) items (omega (arith, same))) ∙ ap (take len) (append-nil new) ∙ take_all len new (omega (arith, same, all))
 
 -- what a slice of a whole vector came to, said of the vector
-pub changes-vector :
-    {P : Type 0} (stands_for : P → Record → Type 0) (Same : P → P → Type 0) (more : Record → Record) (items slice changed : List P) (len : ℕ) → slice ≡ items → length items ≡ len
+pub changes-vector : {P : Type 0} (stands_for : P → Record → Type 0) (Same : P → P → Type 0) (more : Record → Record) (items slice changed : List P) (len : ℕ) → slice ≡ items → length items ≡ len
     → ChangesFirst stands_for Same more slice changed → ChangesFirst stands_for Same more items (take len (changed ++ drop (length changed) items))
 changes-vector {P} stands_for Same more items slice changed len whole full change =
     let of_items : ChangesFirst stands_for Same more items changed = subst (λ (slice : List P). ChangesFirst stands_for Same more slice changed) whole change in

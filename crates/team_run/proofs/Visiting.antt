@@ -36,8 +36,7 @@ put-others S t store (Some callback) = set-set S.pending t _ None
 
 put_all-others : (S : State) (t : ℕ) (stores : List Stored) → slice_set (put_all S t stores).pending t None ≡ slice_set S.pending t None
 put_all-others S t [] = refl
-put_all-others S t (store ∷ rest) =
-    put_all-others (put S t store.target store.word) t rest ∙ put-others S t store (pending_at S t)
+put_all-others S t (store ∷ rest) = put_all-others (put S t store.target store.word) t rest ∙ put-others S t store (pending_at S t)
 
 back-pending : (S : State) (t : ℕ) (callback : Option Callback) → IsSome callback → (back_from S t callback).pending ≡ slice_set S.pending t None
 back-pending S t None some = absurd (true≢false (sym some))
@@ -54,8 +53,7 @@ nobody-back run S t event stores nobody happens waits =
 -- a thread inside a callback that is registered still is inside one after its stores
 waits-put_all : (run : Run) (S : State) (t : ℕ) (e : Event) (made : ℕ) (stores : List Stored) → Inside run S t e made → IsSome (pending_at (put_all S t stores) t)
 waits-put_all run S t e made [] inside = rw inside.pending refl
-waits-put_all run S t e made (store ∷ rest) inside =
-    waits-put_all run (put S t store.target store.word) t e (made + 1) rest (inside-put run S t e made store.target store.word inside)
+waits-put_all run S t e made (store ∷ rest) inside = waits-put_all run (put S t store.target store.word) t e (made + 1) rest (inside-put run S t e made store.target store.word inside)
 
 -- a turn with no event leaves the callbacks alone
 pub same-pending : (S after : State) (t : ℕ) (o : Outcome) → Leaves S t after o → inside_after o t ≡ None → after.pending ≡ S.pending
@@ -133,8 +131,7 @@ module _ (run : Run) (from : ℕ) (H K : List Entry) (stands : StandsAt run from
   serves-to serves = record { unheard = None; is_unheard = stands.nobody; serves = serves }
 
   pub serves-all : ServesTo stands_for run parts H others K → Serves stands_for run parts H None others K
-  serves-all served =
-      subst (λ unheard. Serves stands_for run parts H unheard others K) (unheard-none run from K served.unheard stands served.is_unheard) served.serves
+  serves-all served = subst (λ unheard. Serves stands_for run parts H unheard others K) (unheard-none run from K served.unheard stands served.is_unheard) served.serves
 
 -- after a turn, with the calls and the return of its event
 pub record Visited {P : Type 0} (stands_for : P → Record → Type 0) (run : Run) (H : List Entry) (t : ℕ) (parts others : List P) (longer : List Entry) : Type 0 where
@@ -169,8 +166,7 @@ module _ (run : Run) (from : ℕ) (H : List Entry) (t : ℕ) (stands : StandsAt 
   module _ {P : Type 0} (stands_for : P → Record → Type 0) (parts others : List P) where
     -- where the run has come to this state
     visited-at : (next : State) (longer : List Entry) → HasRun run longer (record { state = next; next = t + 1; inside = None }) → none_pending next ≡ true
-        → HearsOwn run longer → (HearsSilent run longer → StoresNothing longer) → Serves stands_for run parts H None others longer → next.turns ≡ now.turns + 1
-        → Visited stands_for run H t parts others longer
+        → HearsOwn run longer → (HearsSilent run longer → StoresNothing longer) → Serves stands_for run parts H None others longer → next.turns ≡ now.turns + 1 → Visited stands_for run H t parts others longer
     visited-at next longer has nobody own silent serves turned =
         let there : after run longer ≡ next = HasRun-after has in record {
           serves = serves;
@@ -291,8 +287,7 @@ module _ (book next : BookView) (from t : ℕ) (stands : StandsAt book.run from 
   }
 
 -- what a run that has stopped has come to
-pub have-served :
-    {P : Type 0} (stands_for : P → Record → Type 0) (Same : P → P → Type 0) (run : Run) (next : ℕ) (reason : Cause) (H : List Entry) (text : List ℕ) (parts others : List P)
+pub have-served : {P : Type 0} (stands_for : P → Record → Type 0) (Same : P → P → Type 0) (run : Run) (next : ℕ) (reason : Cause) (H : List Entry) (text : List ℕ) (parts others : List P)
     → ServesTo stands_for run parts [] others H → AreSame Same parts others → StopsAt run H → (reason ≢ cause.Memory → StandsAt run next H) → (reason ≢ cause.Memory → first_enabled run (after run H) next ≡ None)
     → (reason ≢ cause.Memory → cause_of run H ≡ Some reason) → (reason ≡ cause.Memory → H ≢ []) → text ≡ (after run H).world.store.text → HaveServed stands_for Same true run reason H text parts others
 have-served {P} stands_for Same run next reason H text parts others serves same stops stands over caused begun printed =

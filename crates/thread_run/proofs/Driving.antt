@@ -104,8 +104,7 @@ hold-entries before later between entries hold =
 pub left-others : (run : Run) (history more : List Entry) (t : ℕ) (unheard : Bool) → NotBy t more → LeftAt run history t unheard → LeftAt run (history ++ more) t unheard
 left-others run history more t true none left =
     record { seq = left.seq; call = left.call; snapshot = left.snapshot; owes = owes-still run history more t left.seq left.call left.snapshot left.owes none }
-left-others run history more t false none left =
-    ap (λ (S : State). pending_at S t) (after-append run (first run) history more) ∙ entries-others run (after run history) t more none ∙ left
+left-others run history more t false none left = ap (λ (S : State). pending_at S t) (after-append run (first run) history more) ∙ entries-others run (after run history) t more none ∙ left
 
 pub heard-others : (run : Run) (history more : List Entry) (t : ℕ) → NotBy t more → heard_of run (history ++ more) t ≡ heard_of run history t
 heard-others run history more t none = more-without run (first run) 0 t history more (back-others t more none)
@@ -152,8 +151,7 @@ module _ {P : Type 0} (stands_for : P → Record → Type 0) (Same : P → P →
       record { unheard = false; left = outside; over = λ same. absurd (true≢false (sym same)); hears = inside.hears; same_is = inside.same_is }
 
   -- a visit that tells of no event
-  pub driven-quiet :
-      (pass later : PassView) (part : P) (step : Step) → pass.thread < run.threads → pass.ended ≡ false → VisitsAfterOthers run pass step later
+  pub driven-quiet : (pass later : PassView) (part : P) (step : Step) → pass.thread < run.threads → pass.ended ≡ false → VisitsAfterOthers run pass step later
       → ((seq : ℕ) (call : Call) (snapshot : Snapshot) → step ≡ Told seq call snapshot → ⊥) → Driven pass part → Driven later part
   driven-quiet pass later part step below ended goes none driven =
       let book = book_after run (pass.seen ++ goes.between) goes.ended in
@@ -222,8 +220,7 @@ module _ {P : Type 0} (stands_for : P → Record → Type 0) (Same : P → P →
           ap (λ (S : State). pending_at S t) (after-append run (first run) history (event_reply t stores) ∙ after-append run (after run history) (puts_at t stores) (back_at t ∷ [])) ∙ back-outside S t
 
   -- its part found no memory
-  pub driven-unheard :
-      (pass later : PassView) (part next : P) (seq : ℕ) (call : Call) (snapshot : Snapshot) → Owes run (entries_of pass.seen) pass.thread seq call snapshot → AddsHold pass later [] → later.ended ≡ true
+  pub driven-unheard : (pass later : PassView) (part next : P) (seq : ℕ) (call : Call) (snapshot : Snapshot) → Owes run (entries_of pass.seen) pass.thread seq call snapshot → AddsHold pass later [] → later.ended ≡ true
       → ((h : Record) → stands_for part h → stands_for next (one_unheard h)) → ((first second third : P) → Same first second → Same second third → Same first third) → Same part next → Inside pass part → Driven later next
   driven-unheard pass later part next seq call snapshot owes grows ended none onward kept inside =
       let t = pass.thread in
@@ -244,12 +241,10 @@ module _ {P : Type 0} (stands_for : P → Record → Type 0) (Same : P → P →
 
   -- a visit, and then no memory
   driven-ended : (pass later last : PassView) (part : P) → AddsHold pass later [] → later.ended ≡ pass.ended → AddsHold later last [] → last.ended ≡ true → Driven pass part → Driven last part
-  driven-ended pass later last part one same two ended driven =
-      driven-grown later last part two (λ over. ended) (driven-grown pass later part one (λ over. same ∙ over) driven)
+  driven-ended pass later last part one same two ended driven = driven-grown later last part two (λ over. ended) (driven-grown pass later part one (λ over. same ∙ over) driven)
 
   -- a visit of a pass
-  pub come-gone :
-      {E : Type 0} (pass later : PassView) (part : P) (result : Result Step E) → pass.thread < run.threads
+  pub come-gone : {E : Type 0} (pass later : PassView) (part : P) (result : Result Step E) → pass.thread < run.threads
       → (pass.ended ≡ true → (later ≡ pass) × IsOk result × IfOk result (λ step. step ≡ Ended causes.Memory)) → (pass.ended ≡ false → IfOk result (λ step. VisitsAfterOthers run pass step later))
       → OnErr result (AddsHold pass later []) → later.ended ≡ pass.ended → Driven pass part → HasCome stands_for Same run whose later part result
   come-gone pass later part (Ok step) below over goes memory same driven = by pass.ended refl
@@ -262,8 +257,7 @@ module _ {P : Type 0} (stands_for : P → Record → Type 0) (Same : P → P →
   -- its callback was answered, and then it visited again
   pub come-answered :
       {E : Type 0} (pass later : PassView) (part next : P) (seq : ℕ) (call : Call) (snapshot : Snapshot) (reply : Reply) (result : Result Step E) → Legal run (entries_of pass.seen) → pass.thread < run.threads → pass.ended ≡ false
-      → Owes run (entries_of pass.seen) pass.thread seq call snapshot
-      → IfOk result (λ step. AnswersThen pass (event_reply pass.thread (stores_of reply snapshot)) (λ answered. VisitsAfterOthers run answered step later))
+      → Owes run (entries_of pass.seen) pass.thread seq call snapshot → IfOk result (λ step. AnswersThen pass (event_reply pass.thread (stores_of reply snapshot)) (λ answered. VisitsAfterOthers run answered step later))
       → OnErr result (AnswersThen pass (event_reply pass.thread (stores_of reply snapshot)) (λ answered. AddsHold answered later [])) → later.ended ≡ pass.ended
       → ((h : Record) → stands_for part h → stands_for next (told h (item_of seq pass.thread call snapshot reply))) → ((first second third : P) → Same first second → Same second third → Same first third) → Same part next → Inside pass part → HasCome stands_for Same run whose later next result
   come-answered pass later part next seq call snapshot reply (Ok step) legal below open_now owes goes memory same tells onward kept inside =

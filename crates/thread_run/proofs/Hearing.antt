@@ -15,8 +15,7 @@ back-append t (entry ∷ xs) ys none = ap (λ more. (is_back entry.what && entry
 -- and the Back that stands among these
 back-front : (t : ℕ) (xs ys : List Entry) → has_back t xs ≡ true → has_back t (xs ++ ys) ≡ true
 back-front t [] ys back = absurd (true≢false (sym back))
-back-front t (entry ∷ xs) ys back =
-    elim (is_back entry.what && entry.thread == t) as (λ b. (b || has_back t xs) ≡ true → (b || has_back t (xs ++ ys)) ≡ true) [ true ↦ λ said. refl | false ↦ λ said. back-front t xs ys said ] back
+back-front t (entry ∷ xs) ys back = elim (is_back entry.what && entry.thread == t) as (λ b. (b || has_back t xs) ≡ true → (b || has_back t (xs ++ ys)) ≡ true) [ true ↦ λ said. refl | false ↦ λ said. back-front t xs ys said ] back
 
 -- others' entries have no Back of the thread
 pub back-others : (t : ℕ) (xs : List Entry) → NotBy t xs → has_back t xs ≡ false
@@ -167,8 +166,7 @@ does-many run S u (Put place word) = elim (pending_at S u) as (λ callback. leng
 does-many run S u Back = elim (pending_at S u) as (λ callback. length (back_from S u callback).pending ≡ length S.pending) [ None ↦ refl | Some callback ↦ length-set S.pending u None ]
 
 -- what a thread hears of entries after which it is inside no callback is heard of them whatever follows
-pub heard-split :
-    (run : Run) (S : State) (position t : ℕ) (entries more : List Entry) → t < length S.pending → pending_at (after_from run S entries) t ≡ None
+pub heard-split : (run : Run) (S : State) (position t : ℕ) (entries more : List Entry) → t < length S.pending → pending_at (after_from run S entries) t ≡ None
     → heard_on run S position (entries ++ more) t ≡ heard_on run S position entries t ++ heard_on run (after_from run S entries) (position + length entries) more t
 heard-split run S position t [] more within outside = ap (λ place. heard_on run S place more t) (omega arith)
 heard-split run S position t (entry ∷ rest) more within outside =

@@ -21,7 +21,6 @@ returns-clause-ran g c =
       written =
           c.write_made-end.ensures.written _
           (IfOk-weaker c.text-made.result _ _ (λ text is. is records (rw c.deref.ensures.value has.kept) ∙ ap (λ (printed : List ℕ). g.P.Keeper.text_of c.args.job.settings.command records printed) (c.deref-2.ensures.value ∙ has.printed)
-          ∙ sym (c.requires.text (text_in report) run report.cause report.history)
-          ∙ written-as c.args.job report has.observes c.args.job.settings.command refl) c.text-made.ensures);
+          ∙ sym (c.requires.text (text_in report) run report.cause report.history) ∙ written-as c.args.job report has.observes c.args.job.settings.command refl) c.text-made.ensures);
       faults = c.write_made-end.ensures.faults;
     }

@@ -19,8 +19,7 @@ returns-clause-ran g c =
       guests_are = has.guests;
       written =
           c.write_made-end.ensures.written _
-          (IfOk-weaker c.with_profile-made.result _ _ (λ text is. is records (rw c.deref.ensures.value has.counted)
-          ∙ ap (λ (printed : List ℕ). printed ++ profile_of records) has.printed
+          (IfOk-weaker c.with_profile-made.result _ _ (λ text is. is records (rw c.deref.ensures.value has.counted) ∙ ap (λ (printed : List ℕ). printed ++ profile_of records) has.printed
           ∙ written-as c.args.job report has.observes (Running output.Profile) c.requires.command) c.with_profile-made.ensures);
       faults = c.write_made-end.ensures.faults;
     }

@@ -3,8 +3,7 @@ use Rattle.team_run.{specs.Names.BookView, specs.Names.Run, specs.Program.run_of
 use Rattle.team_run.proofs.serial.run_serial.Goals as goal
 
 pub finish-cause-requires-clause-stands : goal.finish-cause-requires-clause-stands
-finish-cause-requires-clause-stands g c κs within =
-    rw c.in_ok-book.ensures (stands-start (run_of_program c.args.program c.mask_of-mask.result c.args.threads c.args.steps) c.requires.some c.requires.few)
+finish-cause-requires-clause-stands g c κs within = rw c.in_ok-book.ensures (stands-start (run_of_program c.args.program c.mask_of-mask.result c.args.threads c.args.steps) c.requires.some c.requires.few)
 
 pub finish-cause-requires-clause-parts : goal.finish-cause-requires-clause-parts
 finish-cause-requires-clause-parts g c κs within =

@@ -31,8 +31,7 @@ pub returns-clause-serves : goal.returns-clause-serves
 returns-clause-serves g c = serves-to _ _ _ _ c.loop-ready.invariant.stands g.P.ToolPart.stands_for _ _ c.loop-ready.invariant.serves
 
 pub unreachable-requires : goal.unreachable-requires
-unreachable-requires g c =
-    caused _ _ _ c.loop-ready.invariant.stands (sym c.first_ready.ensures.thread ∙ ap thread_of c.in_default.is) (sym c.cause.ensures ∙ c.in-None.is)
+unreachable-requires g c = caused _ _ _ c.loop-ready.invariant.stands (sym c.first_ready.ensures.thread ∙ ap thread_of c.in_default.is) (sym c.cause.ensures ∙ c.in-None.is)
 
 pub returns-clause-stops : goal.returns-clause-stops
 returns-clause-stops g c = stops-here _ _ _ c.loop-ready.invariant.stands

@@ -15,12 +15,10 @@ pub returns-in_err-step-clause-stops : goal.returns-in_err-step-clause-stops
 returns-in_err-step-clause-stops g c = rw c.in_err-step.ensures.memory (stops-here _ _ _ c.requires.stands)
 
 pub overflow_add-self : goal.overflow_add-self
-overflow_add-self g c =
-    omega (arith, first_enabled-below c.args.self.now.book.run (state_of c.args.self.now.book) _ _ c.requires.stands.within c.requires.turn, c.requires.stands.few)
+overflow_add-self g c = omega (arith, first_enabled-below c.args.self.now.book.run (state_of c.args.self.now.book) _ _ c.requires.stands.within c.requires.turn, c.requires.stands.few)
 
 pub serve-requires-clause-part : goal.serve-requires-clause-part
-serve-requires-clause-part g c κs within =
-    omega (arith, first_enabled-below c.args.self.now.book.run (state_of c.args.self.now.book) _ _ c.requires.stands.within c.requires.turn, c.requires.parts)
+serve-requires-clause-part g c κs within = omega (arith, first_enabled-below c.args.self.now.book.run (state_of c.args.self.now.book) _ _ c.requires.stands.within c.requires.turn, c.requires.parts)
 
 pub returns-in-Told : goal.returns-in-Told
 returns-in-Told g c =
