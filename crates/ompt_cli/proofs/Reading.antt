@@ -75,11 +75,16 @@ end_at-last : (spot : Spot) (front : List Token) (last : Token) → end_at spot 
 end_at-last spot [] last = refl
 end_at-last spot (first ∷ front) last = end_at-last first.spot front last
 
--- so the place where a tree says that its text ends is that of the tokens
-pub end-is : (text : List ℕ) (tokens : List Token) (end : Spot) → tokens_of text ≡ Ok tokens → ((front : List Token) (last : Token) → tokens ≡ front ++ last ∷ [] → end ≡ last.spot) → end ≡ end_of tokens
-end-is text tokens end are at_last =
-    let ended = tokens-end text tokens are in
-    at_last ended.front ended.last ended.parts ∙ sym (ap (λ list. end_of list) ended.parts ∙ end_at-last (record { line = 1; column = 1 }) ended.front ended.last)
+-- so a tree that was read of a text is that of the text, with its end and the number of its name `main`
+pub read-as : (text : List ℕ) (tokens : List Token) (program : TreeView) → Reads beginning text tokens → tokens_of text ≡ Ok tokens → IsTreeOf text (root_tree program)
+    → ((front : List Token) (last : Token) → tokens ≡ front ++ last ∷ [] → program.end ≡ last.spot) → program.main ≡ main_of text tokens → IsReadAs text program
+read-as text tokens program read are tree at_last main =
+    let ended = tokens-end text tokens are in record {
+      tokens = tokens;
+      has = record { read = read; tree_is = tree };
+      end_is = at_last ended.front ended.last ended.parts ∙ sym (ap (λ list. end_of list) ended.parts ∙ end_at-last (record { line = 1; column = 1 }) ended.front ended.last);
+      main_is = main;
+    }
 
 -- a text that isn't too long runs or is refused
 module _ (text : List ℕ) (short : length text ≤ 65536) where

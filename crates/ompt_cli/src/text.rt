@@ -2,12 +2,12 @@
 
 ghost use Rattle.std.specs.Prelude.{ℕ, ◌≡◌, ◌≢◌, ◌≤◌, IfOk, IfErr, Some, length};
 ghost use Rattle.ompt_cli.specs.Names.{Rose};
-ghost use Rattle.ompt_cli.specs.{Loading.EndsFor, Loading.IsLoaded, Text.IsReadAs, Text.Spells, Text.text_for};
+ghost use Rattle.ompt_cli.specs.{Loading.EndsFor, Loading.IsLoaded, Text.Spells, Text.text_for};
 
 use crate::end::{End, Refusal};
 use crate::job::Loaded;
 use c_check::{CheckFault, Program, check};
-use c_syntax::{SyntaxFault, Tree, read_program};
+use c_syntax::{SyntaxFault, read_program};
 use c_tokens::{TokenFault, tokens};
 use ompt_words::Command;
 use run_edges::{ReadAllFault, Source, read_all};
@@ -76,26 +76,6 @@ pub(crate) fn program_of(alloc: Global, text: &[u8]) -> Result<Program, End>
     ensures ended { IfErr result (EndsFor (Some text.now)) }
     ensures read { result ≢ Err End.ReadFault }
 {
-    let tree = match tree_of(alloc, text) {
-        Ok(tree) => tree,
-        Err(end) => return Err(end),
-    };
-    match check(alloc, tree) {
-        Ok(program) => Ok(program),
-        Err(fault) => match fault {
-            CheckFault::Memory => Err(End::Memory),
-            _ => Err(End::Refused(Refusal::Rule(fault))),
-        },
-    }
-}
-
-/// The tree of the text, by its tokens and then by the grammar.
-fn tree_of(alloc: Global, text: &[u8]) -> Result<Tree, End>
-    requires { length text.now ≤ 65536 }
-    ensures tree { IfOk result (IsReadAs text.now) }
-    ensures ended { IfErr result (EndsFor (Some text.now)) }
-    ensures read { result ≢ Err End.ReadFault }
-{
     let tokens = match tokens(alloc, text) {
         Ok(tokens) => tokens,
         Err(fault) => match fault {
@@ -103,11 +83,18 @@ fn tree_of(alloc: Global, text: &[u8]) -> Result<Tree, End>
             _ => return Err(End::Refused(Refusal::Tokens(fault))),
         },
     };
-    match read_program(alloc, text, &tokens) {
-        Ok(tree) => Ok(tree),
+    let tree = match read_program(alloc, text, &tokens) {
+        Ok(tree) => tree,
         Err(fault) => match fault {
-            SyntaxFault::Memory => Err(End::Memory),
-            _ => Err(End::Refused(Refusal::Syntax(fault))),
+            SyntaxFault::Memory => return Err(End::Memory),
+            _ => return Err(End::Refused(Refusal::Syntax(fault))),
+        },
+    };
+    match check(alloc, tree) {
+        Ok(program) => Ok(program),
+        Err(fault) => match fault {
+            CheckFault::Memory => Err(End::Memory),
+            _ => Err(End::Refused(Refusal::Rule(fault))),
         },
     }
 }
