@@ -11,9 +11,9 @@ use Rattle.tool_profiled.proofs.Standing.{each-unsaid, first-is, first-marked, o
 use Rattle.tool_profiled.proofs.Union.{in-union}
 use Rattle.team_run.specs.{Serving.AreSame, Serving.RunsParts, Standing.AreSilent, Standing.HearsOwn}
 use Rattle.ompt_cli.specs.Names.{is_registered, PROFILE_MASK, IsUncalled, Record, StoresNothing, initialized, mask_of, Handed, Cause, Entry, Run, heard_of, Legal, record_of, records_of, counts_of, AreKept, HasHeard, HasStarted, ProfiledFor, SameProfiled}
-use Rattle.ompt_cli.proofs.Calls.{IsAt, begun_at, first-ended, is-at, other-ended, part-at, record_at}
+use Rattle.ompt_cli.proofs.Keeping.{IsAt, begun_at, first-ended, is-at, other-ended, part-at, record_at, kept-shares, nothing_called, silent-each}
 use Rattle.ompt_cli.proofs.Handing.{For, IsAgain, SamePart, again, fresh-quiet, guest-at, none-in, none-out}
-use Rattle.ompt_cli.{specs.Guests.GuestsJoin, specs.Guests.HandOut, specs.Guests.ComesTo, specs.Guests.guests_of, proofs.Keeping.kept-shares, proofs.Keeping.nothing_called, proofs.Keeping.silent-each}
+use Rattle.ompt_cli.specs.Guests.{GuestsJoin, HandOut, ComesTo, guests_of}
 
 uncalled : IsUncalled nothing_called
 uncalled = record { started = refl; calls = refl; finished = refl; unheard = refl }

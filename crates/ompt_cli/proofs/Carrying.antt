@@ -12,8 +12,9 @@ use Rattle.ompt_cli.specs.Names.{Record, Cause, WordsFault, Generating, Request,
 use Rattle.ompt_cli.specs.Commands.{CountsFaults, EndsAs, EndsRun, HasWritten, IsBeforeRun, IsReading, IsShowing, IsUnread, MayRefuse, MayRun, out_of, run_text, program_in, run_of, settings_in, text_in}
 use Rattle.ompt_cli.specs.Words.{AreFaulty, AreInRange, AreTakenAs, AskFor, AskForRun, AskToRead}
 use Rattle.ompt_cli.proofs.Telling.{before-run, ends-may, few-threads, may-run, same-settings, shows-faults, some-threads}
-use Rattle.ompt_cli.{specs.Top.CarriesOut, specs.Top.IsRunOf, specs.Top.HasTrace, specs.declared.end.End.End, specs.declared.end.Refusal.Refusal, specs.declared.job.Job.Job, specs.declared.report.Report.Report, specs.Histories.Certifies, specs.Histories.MayCertify, specs.Loading.EndsFor, specs.Loading.IsLoaded, specs.Reports.Reports, specs.Text.IsProgram, specs.Text.IsRefused, specs.Text.Spells, specs.Text.text_for}
-use Rattle.ompt_cli.{specs.Traces.HasRead, proofs.Finishing.finished, proofs.Finishing.nested-run, proofs.Reading.loaded-unrefused, proofs.Filing.ends-found, proofs.Filing.filed-text, proofs.Written.trace_unbroken, proofs.Written.trace_unrefused}
+use Rattle.ompt_cli.specs.Text.{EndsFor, IsLoaded, IsProgram, IsRefused, Spells, text_for}
+use Rattle.ompt_cli.{specs.Top.CarriesOut, specs.Top.IsRunOf, specs.Top.HasTrace, specs.declared.end.End.End, specs.declared.end.Refusal.Refusal, specs.declared.job.Job.Job, specs.declared.report.Report.Report, specs.Histories.Certifies, specs.Histories.MayCertify, specs.Reports.Reports, specs.Traces.HasRead, proofs.Halting.finished, proofs.Halting.nested-run, proofs.Reading.loaded-unrefused}
+use Rattle.ompt_cli.{proofs.Written.ends-found, proofs.Written.filed-text, proofs.Written.trace_unbroken, proofs.Written.trace_unrefused}
 
 -- nothing is appended where nothing changed, and nothing is written
 nothing-appended : (held : Option (List ℕ)) → Appends held held []

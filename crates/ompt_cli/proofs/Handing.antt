@@ -5,7 +5,8 @@ use Rattle.tool_api.specs.declared.handed.Handed.TheVariants as held
 use Rattle.tool_api.specs.{Record.QuietFor, declared.quiet.Quiet.Quiet}
 use Rattle.team_run.specs.Serving.{AreSame, RunsParts, called_for, record_of_first}
 use Rattle.ompt_cli.specs.Names.{Record, StartedWith, StoresNothing, HandedFor, SameHanded, Handed, Cause, Entry, Run, heard_of}
-use Rattle.ompt_cli.{specs.Guests.GuestsServe, specs.Guests.HandOut, specs.Guests.guests_of, proofs.Calls.is-at, proofs.Calls.part-at, proofs.Calls.record_at, proofs.Keeping.nothing_called, proofs.Keeping.silent-each}
+use Rattle.ompt_cli.proofs.Keeping.{is-at, part-at, record_at, nothing_called, silent-each}
+use Rattle.ompt_cli.specs.Guests.{GuestsServe, HandOut, guests_of}
 
 module _ {G : Type 0} {B : Type 0} (box : G → B) where
   -- one part more

@@ -6,8 +6,8 @@ use Rattle.c_syntax.{specs.declared.fault.SyntaxFault.SyntaxFault, proofs.OneAns
 use Rattle.c_check.specs.Checked.{rule_fault}
 use Rattle.numbered_runs.specs.Alike.{AreAlike}
 use Rattle.ompt_cli.specs.Names.{ConsumesMore, Spot, Token, TokenFault, Reads, beginning, EndsIn, main_of, Tree, HasSyntaxFault, IsTreeOf, TreeView, root_tree, rule_fault_in, CheckFault}
-use Rattle.ompt_cli.specs.Text.{HasTree, IsProgram, IsReadAs, IsRefused, Spells, end_at, end_of, rule_broken}
-use Rattle.ompt_cli.specs.{declared.end.Refusal.TheVariants.Tokens, declared.end.Refusal.TheVariants.Syntax, declared.end.Refusal.TheVariants.Rule, declared.end.Refusal.TheVariants.TooLong, declared.end.End.TheVariants.Memory, declared.end.End.TheVariants.Refused, Loading.EndsFor, Loading.IsLoaded, declared.end.Refusal.Refusal, declared.end.End.End, declared.job.Loaded.Loaded}
+use Rattle.ompt_cli.specs.Text.{HasTree, IsProgram, IsReadAs, IsRefused, Spells, end_at, end_of, rule_broken, EndsFor, IsLoaded}
+use Rattle.ompt_cli.specs.declared.{end.Refusal.TheVariants.Tokens, end.Refusal.TheVariants.Syntax, end.Refusal.TheVariants.Rule, end.Refusal.TheVariants.TooLong, end.End.TheVariants.Memory, end.End.TheVariants.Refused, end.Refusal.Refusal, end.End.End, job.Loaded.Loaded}
 
 module _ (text : List ℕ) where
   -- a text has one list of tokens, with one tree

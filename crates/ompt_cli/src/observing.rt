@@ -2,7 +2,7 @@
 
 ghost use Rattle.std.specs.Prelude.{◌≡◌, IfOk, List, length, true};
 ghost use Rattle.team_run.specs.Program.{IsRan, run_of};
-ghost use Rattle.ompt_cli.specs.{declared.job.Job.Job, Loading.IsOf, Reports.HasObserved};
+ghost use Rattle.ompt_cli.specs.{declared.job.Job.Job, Text.IsOf, Reports.HasObserved};
 
 use crate::job::Job;
 use crate::report::{ProgramTree, Report};

@@ -1,7 +1,7 @@
 //! How a command ended, and what it reports of its run.
 
 ghost use Rattle.std.specs.Prelude.{◌≡◌, None};
-ghost use Rattle.ompt_cli.specs.Loading.{IsOf};
+ghost use Rattle.ompt_cli.specs.Text.{IsOf};
 
 use crate::end::End;
 use crate::job::Loaded;

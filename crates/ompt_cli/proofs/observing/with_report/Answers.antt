@@ -1,5 +1,5 @@
 use Rattle.std.proofs.Common.{ap}
-use Rattle.ompt_cli.proofs.Finishing.{parts-outside}
+use Rattle.ompt_cli.proofs.Halting.{parts-outside}
 use Rattle.ompt_cli.proofs.observing.with_report.Goals as goal
 
 pub returns : goal.returns

@@ -2,7 +2,7 @@ use Rattle.std.proofs.Common.{ℕ, ◌∙◌, List, ap, subst, sym}
 use Rattle.run_trace.proofs.Traces.{traces_of_runs}
 use Rattle.ompt_cli.specs.Names.{records_of, trace_with, fields_of, spelling, AreShared, Recording}
 use Rattle.ompt_cli.proofs.Telling.{command-is, few-threads, guests-kept, some-threads, written-as}
-use Rattle.ompt_cli.{specs.Commands.HasGuests, specs.Commands.HasWritten, specs.Commands.run_of, specs.Commands.unless_memory, proofs.Keeping.kept-shared, proofs.Filing.ends-found, proofs.Filing.shared-few}
+use Rattle.ompt_cli.{specs.Commands.HasGuests, specs.Commands.HasWritten, specs.Commands.run_of, specs.Commands.unless_memory, proofs.Keeping.kept-shared, proofs.Written.ends-found, proofs.Written.shared-few}
 use Rattle.ompt_cli.proofs.reporting.record.Goals as goal
 
 pub write_trace_of_run-end-requires : goal.write_trace_of_run-end-requires

@@ -1,4 +1,4 @@
-use Rattle.ompt_cli.proofs.Filing.{unless-found}
+use Rattle.ompt_cli.proofs.Written.{unless-found}
 use Rattle.ompt_cli.proofs.reporting.write_trace_of_run.Goals as goal
 
 pub returns-clause-written : goal.returns-clause-written

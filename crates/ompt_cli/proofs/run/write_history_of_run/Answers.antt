@@ -1,7 +1,7 @@
 use Rattle.std.proofs.Common.{ℕ, ◌≤◌, ◌∙◌, List, ap, length, subst, sym}
 use Rattle.run_trace.proofs.Counted.{few-entries}
 use Rattle.history_file.{specs.Fields.fields_of, specs.Fields.spelling, proofs.OfRuns.threads_named}
-use Rattle.ompt_cli.proofs.Filing.{ended-as, file-is, filed, filed-text, found-by}
+use Rattle.ompt_cli.proofs.Written.{ended-as, file-is, filed, filed-text, found-by}
 use Rattle.ompt_cli.{specs.Names.HistoryFile, specs.Names.FitsFile, specs.Commands.HasWritten, specs.Commands.run_of, proofs.Telling.few-threads, proofs.Telling.some-threads}
 use Rattle.ompt_cli.proofs.run.write_history_of_run.Goals as goal
 

@@ -1,5 +1,5 @@
 use Rattle.std.proofs.Common.{ℕ, IfErr, IfOk, List, Some, subst, sym}
-use Rattle.ompt_cli.specs.{Names.Command, Loading.EndsFor, Loading.IsLoaded, Text.text_for}
+use Rattle.ompt_cli.specs.{Names.Command, Text.EndsFor, Text.IsLoaded, Text.text_for}
 use Rattle.ompt_cli.proofs.text.program_for.Goals as goal
 
 pub returns-in-Generate-Ok-clause-loaded : goal.returns-in-Generate-Ok-clause-loaded

@@ -1,7 +1,7 @@
 use Rattle.std.proofs.Common.{refl}
 use Rattle.std.proofs.lemmas.List.{length-set}
 use Rattle.ompt_calls.specs.Item.{item_of}
-use Rattle.team_run.proofs.Replying.{same-at, told-at}
+use Rattle.team_run.proofs.Serving.{same-at, told-at}
 use Rattle.team_run.proofs.serial_run.SerialRun.serve.Goals as goal
 
 pub returns-clause-answers : goal.returns-clause-answers
