@@ -19,12 +19,11 @@
 //! is written where the run ends in any cause but want of memory: also at a trap, at a limit, and where no thread can go on.
 //!
 //! The definitions stand in `specs/`: which words ask for a run or for an input to be read (`Words`), the texts that run, with their
-//! programs, and why others are refused (`Text`), what a command comes to that has a text (`Loading`), the status and the line of each
-//! end (`Ends`), what a run of either kind gives (`Runs`), what a command writes (`Commands`) and reports (`Reports`), what one that
-//! reads a trace (`Traces`) or a history file (`Histories`) has read and written, what guests stand for after a command (`Guests`), and
-//! the records of [`top`]'s contract (`Top`). The runs are those of `omp_model`, the traces those of `trace_format` and `run_trace`,
-//! the rules on them those of `trace_check`, and the history files those of `history_file`. A report holds the tree of its program and
-//! its text for contracts alone ([`ProgramTree`]).
+//! programs, why others are refused, and what a command comes to that has a text (`Text`), the status and the line of each end (`Ends`),
+//! how runs have ended (`Runs`), what a command writes (`Commands`) and reports (`Reports`), what one that reads a trace (`Traces`) or a
+//! history file (`Histories`) has read and written, what guests stand for after a command (`Guests`), and the records of [`top`]'s contract
+//! (`Top`). What a run of either kind gives is said in `team_run`. A report holds the tree of its program and its text for contracts alone
+//! ([`ProgramTree`]).
 //!
 //! [`top_alone`] does the same for all words that don't ask for a run by threads, without the handles for threads and for waiting. By
 //! [`each_text_is_judged`], a law, each text runs or is refused, for one reason.

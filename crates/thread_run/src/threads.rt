@@ -25,7 +25,8 @@ use tool_api::ToolPart;
 /// answers another number than 0 it is finished after the last entry, when all threads have come back. A thread that can't be started is
 /// driven by the caller.
 ///
-/// No clause says when memory is wanting, that the run ends, or that callbacks overlap. An error comes only before a thread was started.
+/// No clause says when memory is wanting, that the run ends, or that callbacks overlap. That an error comes only before the first entry is to be
+/// read.
 pub fn run_threads<R: Threads + Wait + Sync, P: ToolPart>(
     rt: &R,
     alloc: Global,
