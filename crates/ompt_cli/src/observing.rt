@@ -31,15 +31,10 @@ pub(crate) fn observe_alone<P: ToolPart>(job: Job, parts: Vec<P>) -> Seen<P>
     requires parts { length parts.items ≡ job.settings.threads }
     ensures { IfOk result (HasObserved P.stands_for P.same job parts.items) }
 {
-    let Job {
-        loaded,
-        settings,
-        alloc,
-    } = job;
-    let program = ProgramTree::of(&loaded);
-    let (threads, steps) = (settings.threads, settings.steps);
-    let ran = run_serial(alloc, loaded.program, threads, steps, parts)?;
-    Ok(with_report(alloc, settings, program, ran))
+    let program = ProgramTree::of(&job.loaded);
+    let (threads, steps) = (job.settings.threads, job.settings.steps);
+    let ran = run_serial(job.alloc, job.loaded.program, threads, steps, parts)?;
+    Ok(with_report(job.alloc, job.settings, program, ran))
 }
 
 /// Does what [`observe_alone`] does for each job, by threads where it isn't serial.
@@ -54,15 +49,10 @@ pub(crate) fn observe<R: Threads + Wait + Sync, P: ToolPart>(
     if job.settings.serial {
         return observe_alone(job, parts);
     }
-    let Job {
-        loaded,
-        settings,
-        alloc,
-    } = job;
-    let program = ProgramTree::of(&loaded);
-    let (threads, steps) = (settings.threads, settings.steps);
-    let ran = run_threads(rt, alloc, loaded.program, threads, steps, parts)?;
-    Ok(with_report(alloc, settings, program, ran))
+    let program = ProgramTree::of(&job.loaded);
+    let (threads, steps) = (job.settings.threads, job.settings.steps);
+    let ran = run_threads(rt, job.alloc, job.loaded.program, threads, steps, parts)?;
+    Ok(with_report(job.alloc, job.settings, program, ran))
 }
 
 /// What a run of this program with these settings gave.

@@ -41,12 +41,9 @@ pub(crate) fn report_kept<X: Runner, P: Keeper, O: Sink>(
     ensures untouched { OnErr result (out.new ≡ out.old) }
 {
     let (alloc, command) = (job.alloc, job.settings.command);
-    let Observed {
-        report,
-        parts,
-        text,
-    } = run_kept::<X, P>(runner, job, guests)?;
-    let made = P::text(alloc, command, &parts, &text);
+    let observed = run_kept::<X, P>(runner, job, guests)?;
+    let report = observed.report;
+    let made = P::text(alloc, command, &observed.parts, &observed.text);
     let end = write_made(report.cause, made, out);
     Ok(AfterRun { end, report })
 }

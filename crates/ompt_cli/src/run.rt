@@ -78,14 +78,11 @@ fn serve<X: Runner>(runner: &X, job: Job, guests: Guests) -> Result<Served, Allo
         served.text.items ≡ (after (run_of served.report) served.report.history).world.store.text) }
 {
     let Handing { parts, waiting } = hand_out_all(job.alloc, job.settings.threads, guests)?;
-    let Observed {
-        report,
-        parts,
-        text,
-    } = runner.run_guests(job, parts)?;
+    let observed = runner.run_guests(job, parts)?;
+    let text = observed.text;
     let report = Report {
-        guests: take_back_all(parts, waiting),
-        ..report
+        guests: take_back_all(observed.parts, waiting),
+        ..observed.report
     };
     Ok(Served { report, text })
 }
@@ -104,12 +101,9 @@ pub(crate) fn run_profiled<X: Runner, O: Sink>(
     ensures untouched { OnErr result (out.new ≡ out.old) }
 {
     let alloc = job.alloc;
-    let Observed {
-        report,
-        parts,
-        text,
-    } = serve_profiled(runner, job, guests)?;
-    let made = with_profile(alloc, text, &parts);
+    let observed = serve_profiled(runner, job, guests)?;
+    let report = observed.report;
+    let made = with_profile(alloc, observed.text, &observed.parts);
     let end = write_made(report.cause, made, out);
     Ok(AfterRun { end, report })
 }
@@ -139,15 +133,12 @@ fn serve_profiled<X: Runner>(runner: &X, job: Job, guests: Guests) -> Seen<Profi
 {
     let Handing { parts, waiting } = hand_out_all(job.alloc, job.settings.threads, guests)?;
     let Joined { parts, room, .. } = join_all(job.alloc, parts)?;
-    let Observed {
-        report,
-        parts,
-        text,
-    } = runner.run_joined(job, parts)?;
-    let Parted { parts, profiles } = part_all(room, parts);
+    let observed = runner.run_joined(job, parts)?;
+    let text = observed.text;
+    let Parted { parts, profiles } = part_all(room, observed.parts);
     let report = Report {
         guests: take_back_all(parts, waiting),
-        ..report
+        ..observed.report
     };
     Ok(Observed {
         report,

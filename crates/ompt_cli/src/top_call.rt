@@ -177,12 +177,7 @@ fn tell<E: Sink>(outcome: Outcome, err: &mut E) -> Top
     ensures read { result.read ≡ outcome.read }
     ensures told { TellsEnd E.held E.faults result.status outcome.end err.old err.new }
 {
-    let Outcome {
-        end,
-        ran,
-        shown,
-        read,
-    } = outcome;
+    let end = outcome.end;
     let line = end.line();
     let status = match write_all(err, line.as_str().as_bytes()) {
         Ok(()) => end.status(),
@@ -192,8 +187,8 @@ fn tell<E: Sink>(outcome: Outcome, err: &mut E) -> Top
     Top {
         status,
         end,
-        ran,
-        shown,
-        read,
+        ran: outcome.ran,
+        shown: outcome.shown,
+        read: outcome.read,
     }
 }

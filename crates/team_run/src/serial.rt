@@ -49,18 +49,13 @@ pub fn run_serial<P: ToolPart>(
     if cause == Cause::Memory && run.book.entries().is_empty() {
         return Err(AllocError);
     }
-    let SerialRun {
-        book,
-        mut parts,
-        ..
-    } = run;
-    finalize_first(start, &mut parts);
-    let Closed { history, text, .. } = book.close();
+    finalize_first(start, &mut run.parts);
+    let Closed { history, text, .. } = run.book.close();
     Ok(Ran {
         cause,
         mask,
         history,
         text,
-        parts,
+        parts: run.parts,
     })
 }

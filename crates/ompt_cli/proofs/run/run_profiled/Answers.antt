@@ -6,8 +6,8 @@ use Rattle.ompt_cli.proofs.run.run_profiled.Goals as goal
 
 pub returns-clause-ran : goal.returns-clause-ran
 returns-clause-ran g c =
-    let report = c.in_ok-report.field-0.report in
-    let has = c.in_ok-report.ensures in
+    let report = c.in_ok-observed.observed.report in
+    let has = c.in_ok-observed.ensures in
     let command = command-is c.args.job report has.observes ∙ c.requires.command in
     let records = records_of (run_of report) report.history in record {
       observes = has.observes;
