@@ -8,6 +8,7 @@ use crate::job::Loaded;
 use c_check::Program;
 use omp_model::{Cause, History};
 use ompt_words::{Command, ReadCommand, RunOutput, Settings};
+use std::alloc::AllocError;
 use std::snapshot::Snapshot;
 use tool_api::GuestTool;
 
@@ -114,6 +115,9 @@ pub(crate) struct AfterRun {
     pub end: End,
     pub report: Report,
 }
+
+/// How a command ended that has run, unless there was no memory for its run.
+pub(crate) type Ended = Result<AfterRun, AllocError>;
 
 /// A command that ended before its run.
 pub(crate) fn without_run(end: End) -> Outcome

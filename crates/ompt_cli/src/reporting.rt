@@ -13,7 +13,7 @@ use crate::guests::Guests;
 use crate::job::Job;
 use crate::keepers::{Keeper, keepers};
 use crate::observing::{Observed, Seen};
-use crate::report::{AfterRun, Report};
+use crate::report::{AfterRun, Ended, Report};
 use crate::runner::Runner;
 use crate::writing::write_made;
 use omp_codes::PROFILE_MASK;
@@ -27,12 +27,12 @@ use trace_format::write_trace;
 
 /// Runs the job, and writes what its command makes of what the parts kept. The guests come back as they were.
 pub(crate) fn report_kept<X: Runner, P: Keeper, O: Sink>(
-    runner: &X,
+    by: &X,
     job: Job,
     guests: Guests,
     out: &mut O,
-) -> Result<AfterRun, AllocError>
-    requires kind { X.may_run runner.now job.settings.serial }
+) -> Ended
+    requires kind { X.may_run by.now job.settings.serial }
     requires guestless { ¬ HasGuests job.settings.command }
     requires unrecorded { job.settings.command ≢ Command.Record }
     requires text { IsWrittenBy P.text_of job.settings.command }
@@ -41,7 +41,7 @@ pub(crate) fn report_kept<X: Runner, P: Keeper, O: Sink>(
     ensures untouched { OnErr result (out.new ≡ out.old) }
 {
     let (alloc, command) = (job.alloc, job.settings.command);
-    let observed = run_kept::<X, P>(runner, job, guests)?;
+    let observed = run_kept::<X, P>(by, job, guests)?;
     let report = observed.report;
     let made = P::text(alloc, command, &observed.parts, &observed.text);
     let end = write_made(report.cause, made, out);
@@ -66,20 +66,15 @@ pub(crate) fn run_kept<X: Runner, P: Keeper>(runner: &X, job: Job, guests: Guest
 }
 
 /// Runs the job, and writes the trace of the run. The guests come back as they were.
-pub(crate) fn record<X: Runner, O: Sink>(
-    runner: &X,
-    job: Job,
-    guests: Guests,
-    out: &mut O,
-) -> Result<AfterRun, AllocError>
-    requires kind { X.may_run runner.now job.settings.serial }
+pub(crate) fn record<X: Runner, O: Sink>(by: &X, job: Job, guests: Guests, out: &mut O) -> Ended
+    requires kind { X.may_run by.now job.settings.serial }
     requires command { job.settings.command ≡ Command.Record }
     ensures ran { IfOk result (λ ended. Reports (λ guest h. (GuestTool-box guest).stands_for guest.value h)
         O.held O.faults job guests.items out.old out.new ended.end ended.report) }
     ensures untouched { OnErr result (out.new ≡ out.old) }
 {
     let alloc = job.alloc;
-    let Observed { report, parts, .. } = run_kept::<X, Recorder>(runner, job, guests)?;
+    let Observed { report, parts, .. } = run_kept::<X, Recorder>(by, job, guests)?;
     let end = write_trace_of_run(alloc, report.threads, report.cause, &parts, out);
     Ok(AfterRun { end, report })
 }

@@ -12,7 +12,7 @@ use crate::end::End;
 use crate::guests::{Guests, Handing, hand_out_all, take_back_all};
 use crate::job::Job;
 use crate::observing::{Observed, Seen};
-use crate::report::{AfterRun, Report};
+use crate::report::{AfterRun, Ended, Report};
 use crate::runner::Runner;
 use crate::writing::{Made, write_made, write_run};
 use history_file::{FileText, HistoryFile, end_of, write_history};
@@ -32,37 +32,37 @@ struct Served {
 
 /// Runs the job, and writes what the program printed. Guest t is the part of thread t; threads past the guests have none.
 pub(crate) fn run_printed<X: Runner, O: Sink>(
-    runner: &X,
+    by: &X,
     job: Job,
     guests: Guests,
     out: &mut O,
-) -> Result<AfterRun, AllocError>
-    requires kind { X.may_run runner.now job.settings.serial }
+) -> Ended
+    requires kind { X.may_run by.now job.settings.serial }
     requires command { job.settings.command ≡ Command.Run RunOutput.Printed }
     ensures ran { IfOk result (λ ended. Reports (λ guest h. (GuestTool-box guest).stands_for guest.value h)
         O.held O.faults job guests.items out.old out.new ended.end ended.report) }
     ensures untouched { OnErr result (out.new ≡ out.old) }
 {
-    let Served { report, text } = serve(runner, job, guests)?;
+    let Served { report, text } = serve(by, job, guests)?;
     let end = write_run(report.cause, &text, out);
     Ok(AfterRun { end, report })
 }
 
 /// Runs the job, and writes the history of its run. It takes no memory after the run.
 pub(crate) fn run_history<X: Runner, O: Sink>(
-    runner: &X,
+    by: &X,
     job: Job,
     guests: Guests,
     out: &mut O,
-) -> Result<AfterRun, AllocError>
-    requires kind { X.may_run runner.now job.settings.serial }
+) -> Ended
+    requires kind { X.may_run by.now job.settings.serial }
     requires command { job.settings.command ≡ Command.Run RunOutput.History }
     ensures ran { IfOk result (λ ended. Reports (λ guest h. (GuestTool-box guest).stands_for guest.value h)
         O.held O.faults job guests.items out.old out.new ended.end ended.report) }
     ensures untouched { OnErr result (out.new ≡ out.old) }
 {
     let text = job.copied_text()?;
-    let Served { report, .. } = serve(runner, job, guests)?;
+    let Served { report, .. } = serve(by, job, guests)?;
     Ok(write_history_of_run(report, text, out))
 }
 
@@ -88,20 +88,20 @@ fn serve<X: Runner>(runner: &X, job: Job, guests: Guests) -> Result<Served, Allo
 }
 
 /// Runs the job, and writes what the program printed, and then how many calls of each callback there were. Guest t is the part of thread t beside a profile.
-pub(crate) fn run_profiled<X: Runner, O: Sink>(
-    runner: &X,
+pub(crate) fn run_profile<X: Runner, O: Sink>(
+    by: &X,
     job: Job,
     guests: Guests,
     out: &mut O,
-) -> Result<AfterRun, AllocError>
-    requires kind { X.may_run runner.now job.settings.serial }
+) -> Ended
+    requires kind { X.may_run by.now job.settings.serial }
     requires command { job.settings.command ≡ Command.Run RunOutput.Profile }
     ensures ran { IfOk result (λ ended. Reports (λ guest h. (GuestTool-box guest).stands_for guest.value h)
         O.held O.faults job guests.items out.old out.new ended.end ended.report) }
     ensures untouched { OnErr result (out.new ≡ out.old) }
 {
     let alloc = job.alloc;
-    let observed = serve_profiled(runner, job, guests)?;
+    let observed = serve_profiled(by, job, guests)?;
     let report = observed.report;
     let made = with_profile(alloc, observed.text, &observed.parts);
     let end = write_made(report.cause, made, out);
