@@ -8,7 +8,7 @@ ghost use Rattle.ompt_cli.specs.{Guests.GuestsAfter, Reports.Reports, Top.Carrie
 use crate::end::End;
 use crate::guests::Guests;
 use crate::job::Job;
-use crate::report::{Ended, Outcome, without_run};
+use crate::report::{Came, Outcome, without_run};
 use crate::reporting::{record, report_kept};
 use crate::run::{run_history, run_printed, run_profile};
 use crate::runner::Runner;
@@ -56,7 +56,7 @@ pub(crate) fn run_settings<X: Runner, S: Source, O: Sink>(
 }
 
 /// Runs the job, and writes what its command writes of its run. An error says that there was no memory for the run.
-fn run_command<X: Runner, O: Sink>(by: &X, job: Job, guests: Guests, out: &mut O) -> Ended
+fn run_command<X: Runner, O: Sink>(by: &X, job: Job, guests: Guests, out: &mut O) -> Came
     requires { X.may_run by.now job.settings.serial }
     ensures ran { IfOk result (λ ended. Reports (λ guest h. (GuestTool-box guest).stands_for guest.value h)
         O.held O.faults job guests.items out.old out.new ended.end ended.report) }

@@ -74,7 +74,7 @@ pub struct Top {
     pub status: u8,
     /// How the command ended, before its line was told.
     pub end: End,
-    /// The report of the run. It is there at the ends `Came` and `WriteFault`, and
+    /// The report of the run. It is there at the ends `Ended` and `WriteFault`, and
     /// isn't at `Usage`, `Shown`, `Read`, `Refused`, `TraceRefused`, `HistoryRefused`, `Broken`, `Illegal` and `ReadFault`, nor at a `WriteFault` where a text was to be
     /// shown or a trace was read. At `Memory` it may be there; where its cause is want of memory, its history has an entry.
     pub ran: Option<Report>,

@@ -13,7 +13,7 @@ use crate::guests::Guests;
 use crate::job::Job;
 use crate::keepers::{Keeper, keepers};
 use crate::observing::{Observed, Seen};
-use crate::report::{AfterRun, Ended, Report};
+use crate::report::{AfterRun, Came, Report};
 use crate::runner::Runner;
 use crate::writing::write_made;
 use omp_codes::PROFILE_MASK;
@@ -31,7 +31,7 @@ pub(crate) fn report_kept<X: Runner, P: Keeper, O: Sink>(
     job: Job,
     guests: Guests,
     out: &mut O,
-) -> Ended
+) -> Came
     requires kind { X.may_run by.now job.settings.serial }
     requires guestless { ¬ HasGuests job.settings.command }
     requires unrecorded { job.settings.command ≢ Command.Record }
@@ -66,7 +66,7 @@ pub(crate) fn run_kept<X: Runner, P: Keeper>(runner: &X, job: Job, guests: Guest
 }
 
 /// Runs the job, and writes the trace of the run. The guests come back as they were.
-pub(crate) fn record<X: Runner, O: Sink>(by: &X, job: Job, guests: Guests, out: &mut O) -> Ended
+pub(crate) fn record<X: Runner, O: Sink>(by: &X, job: Job, guests: Guests, out: &mut O) -> Came
     requires kind { X.may_run by.now job.settings.serial }
     requires command { job.settings.command ≡ Command.Record }
     ensures ran { IfOk result (λ ended. Reports (λ guest h. (GuestTool-box guest).stands_for guest.value h)

@@ -12,7 +12,7 @@ use crate::end::End;
 use crate::guests::{Guests, Handing, hand_out_all, take_back_all};
 use crate::job::Job;
 use crate::observing::{Observed, Seen};
-use crate::report::{AfterRun, Ended, Report};
+use crate::report::{AfterRun, Came, Report};
 use crate::runner::Runner;
 use crate::writing::{Made, write_made, write_run};
 use history_file::{FileText, HistoryFile, end_of, write_history};
@@ -31,12 +31,7 @@ struct Served {
 }
 
 /// Runs the job, and writes what the program printed. Guest t is the part of thread t; threads past the guests have none.
-pub(crate) fn run_printed<X: Runner, O: Sink>(
-    by: &X,
-    job: Job,
-    guests: Guests,
-    out: &mut O,
-) -> Ended
+pub(crate) fn run_printed<X: Runner, O: Sink>(by: &X, job: Job, guests: Guests, out: &mut O) -> Came
     requires kind { X.may_run by.now job.settings.serial }
     requires command { job.settings.command ≡ Command.Run RunOutput.Printed }
     ensures ran { IfOk result (λ ended. Reports (λ guest h. (GuestTool-box guest).stands_for guest.value h)
@@ -49,12 +44,7 @@ pub(crate) fn run_printed<X: Runner, O: Sink>(
 }
 
 /// Runs the job, and writes the history of its run. It takes no memory after the run.
-pub(crate) fn run_history<X: Runner, O: Sink>(
-    by: &X,
-    job: Job,
-    guests: Guests,
-    out: &mut O,
-) -> Ended
+pub(crate) fn run_history<X: Runner, O: Sink>(by: &X, job: Job, guests: Guests, out: &mut O) -> Came
     requires kind { X.may_run by.now job.settings.serial }
     requires command { job.settings.command ≡ Command.Run RunOutput.History }
     ensures ran { IfOk result (λ ended. Reports (λ guest h. (GuestTool-box guest).stands_for guest.value h)
@@ -88,12 +78,7 @@ fn serve<X: Runner>(runner: &X, job: Job, guests: Guests) -> Result<Served, Allo
 }
 
 /// Runs the job, and writes what the program printed, and then how many calls of each callback there were. Guest t is the part of thread t beside a profile.
-pub(crate) fn run_profile<X: Runner, O: Sink>(
-    by: &X,
-    job: Job,
-    guests: Guests,
-    out: &mut O,
-) -> Ended
+pub(crate) fn run_profile<X: Runner, O: Sink>(by: &X, job: Job, guests: Guests, out: &mut O) -> Came
     requires kind { X.may_run by.now job.settings.serial }
     requires command { job.settings.command ≡ Command.Run RunOutput.Profile }
     ensures ran { IfOk result (λ ended. Reports (λ guest h. (GuestTool-box guest).stands_for guest.value h)
