@@ -1,4 +1,4 @@
-use Rattle.std.proofs.Common.{◌≡◌, ◌∙◌, rules, sym, ap, arith}
+use Rattle.std.proofs.Common.{◌≡◌, ◌∙◌, true, rules, sym, ap, arith}
 use Rattle.team_run.{specs.Names.BookView, specs.Names.Run, specs.Program.run_of_program, proofs.Serving.changes-vector, proofs.Serving.is-ran, proofs.Visiting.have-served, proofs.Visiting.stands-start}
 use Rattle.team_run.proofs.serial.run_serial.Goals as goal
 

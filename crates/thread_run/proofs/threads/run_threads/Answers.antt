@@ -1,4 +1,4 @@
-use Rattle.std.proofs.Common.{◌≡◌, ◌≢◌, [], rules, sym, arith}
+use Rattle.std.proofs.Common.{◌≡◌, ◌≢◌, false, [], rules, sym, arith}
 use Rattle.omp_model.specs.declared.cause.Cause.TheVariants as causes
 use Rattle.team_run.{specs.Program.run_of_program, proofs.Serving.changes-vector, proofs.Serving.is-ran}
 use Rattle.thread_run.proofs.threads.run_threads.Goals as goal
