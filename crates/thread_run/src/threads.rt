@@ -73,8 +73,7 @@ fn known_cause(cause: Option<Cause>) -> Cause
     }
 }
 
-/// Runs the drivers of all threads over the book of this name, each on a thread of its own, until the run is over. It answers what the book has
-/// come to, and the parts.
+/// Runs the drivers of all threads over the book of this name until the run is over. It answers what the book has come to, and the parts.
 fn run_team<R: Threads + Wait + Sync, K: BookName, P: ToolPart>(
     rt: &R,
     alloc: Global,
@@ -89,13 +88,45 @@ fn run_team<R: Threads + Wait + Sync, K: BookName, P: ToolPart>(
     ensures { IfOk result (λ team. HasServed P.stands_for P.same K.run team.0 parts.items team.1.items) }
 {
     let (book, passes) = SharedBook::<K>::start(alloc, blank, processors(rt))?;
-    let slots: Vec<Slot<K, P>> = Vec::with_capacity(alloc, passes.len())?;
-    let passes_back: Vec<Pass<K>> = Vec::with_capacity(alloc, passes.len())?;
-    let parts_back: Vec<P> = Vec::with_capacity(alloc, passes.len())?;
+    let slots = Vec::with_capacity(alloc, passes.len())?;
+    let passes_back = Vec::with_capacity(alloc, passes.len())?;
+    let parts_back = Vec::with_capacity(alloc, passes.len())?;
+    let (passes, parts) = run_drivers(rt, &book, passes, parts, slots, passes_back, parts_back);
+    Ok((book.close(passes), parts))
+}
+
+/// How many processors the threads may run on, or one where that isn't known.
+fn processors<R: Threads>(rt: &R) -> usize {
+    thread::available_parallelism(rt).map_or(1, NonZeroUsize::get)
+}
+
+/// Runs the drivers of these passes and parts, each on a thread of its own, and hands them back in order.
+fn run_drivers<R: Threads + Wait + Sync, K: BookName, P: ToolPart>(
+    rt: &R,
+    book: &SharedBook<K>,
+    passes: Vec<Pass<K>>,
+    parts: Vec<P>,
+    slots: Vec<Slot<K, P>>,
+    passes_back: Vec<Pass<K>>,
+    parts_back: Vec<P>,
+) -> (Vec<Pass<K>>, Vec<P>)
+    requires few { length passes.items ≤ 16 }
+    requires each { length passes.items ≡ length parts.items }
+    requires no_slot { slots.items ≡ [] }
+    requires no_pass { passes_back.items ≡ [] }
+    requires no_part { parts_back.items ≡ [] }
+    requires slots { length passes.items ≤ vec_capacity slots }
+    requires passes { length passes.items ≤ vec_capacity passes_back }
+    requires parts { length passes.items ≤ vec_capacity parts_back }
+    ensures passes { length result.0.items ≡ length passes.items }
+    ensures parts { length result.1.items ≡ length passes.items }
+    ensures drivers { AreDrivers P.stands_for P.same K.run parts.items passes.items parts.items →
+        AreDrivers P.stands_for P.same K.run parts.items result.0.items result.1.items }
+{
     // No start of a thread was refused yet.
     let stays: Stays = array::from_fn(|_| AtomicBool::new(false));
-    let (stays, shared) = (&stays, &book);
-    let (passes, parts) = thread::scope(
+    let stays = &stays;
+    thread::scope(
         thread::scope_env(),
         rt,
         move |scope| -> (Vec<Pass<K>>, Vec<P>)
@@ -112,15 +143,9 @@ fn run_team<R: Threads + Wait + Sync, K: BookName, P: ToolPart>(
             ensures drivers { AreDrivers P.stands_for P.same K.run parts.items passes.items parts.items →
                 AreDrivers P.stands_for P.same K.run parts.items result.0.items result.1.items }
         {
-            let mut slots = start_all(scope, rt, shared, stays, passes, parts, slots);
-            drive_here(rt, shared, &mut slots);
+            let mut slots = start_all(scope, rt, book, stays, passes, parts, slots);
+            drive_here(rt, book, &mut slots);
             finish_all(rt, slots, passes_back, parts_back)
         },
-    );
-    Ok((book.close(passes), parts))
-}
-
-/// How many processors the threads may run on, or one where that isn't known.
-fn processors<R: Threads>(rt: &R) -> usize {
-    thread::available_parallelism(rt).map_or(1, NonZeroUsize::get)
+    )
 }
