@@ -25,7 +25,7 @@ loop-preserved g c = (
   c.go.ensures.owes,
   c.go.ensures.told,
   λ whose driven.
-      let came = rw c.in-Ok-Quiet.is at (c.loop.invariant.3 whose driven) in
+      let came = c.loop.invariant.3 whose driven in
       come-gone g.P.ToolPart.stands_for g.P.ToolPart.same g.K.BookName.run whose c.loop.pass c.go.new.pass c.loop.part c.go.result (rw c.loop.invariant.0 c.legal.ensures.below) c.go.ensures.over c.go.ensures.ok c.go.ensures.memory c.go.ensures.ended
-      (elim c.in-Ok-Quiet.field-0-is [ inl is ↦ rw is at came | inr is ↦ rw is at came ]),
+      (elim c.in-Ok-Quiet.is [ inl is ↦ rw is at came | inr is ↦ rw is at came ]),
 )

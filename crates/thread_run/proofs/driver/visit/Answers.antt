@@ -12,7 +12,7 @@ pub returns-in-Ok-Quiet-clause-goes : goal.returns-in-Ok-Quiet-clause-goes
 returns-in-Ok-Quiet-clause-goes g c = record {
   thread = c.go.ensures.thread;
   driven = λ whose driven.
-      let came = rw c.in-Ok-Quiet.is at (come-gone g.P.ToolPart.stands_for g.P.ToolPart.same g.K.BookName.run whose c.args.pass.now c.go.new.pass c.args.part.now c.go.result c.legal.ensures.below c.go.ensures.over c.go.ensures.ok c.go.ensures.memory c.go.ensures.ended driven) in elim c.in-Ok-Quiet.field-0-is [ inl is ↦ rw is at came | inr is ↦ rw is at came ];
+      let came = (come-gone g.P.ToolPart.stands_for g.P.ToolPart.same g.K.BookName.run whose c.args.pass.now c.go.new.pass c.args.part.now c.go.result c.legal.ensures.below c.go.ensures.over c.go.ensures.ok c.go.ensures.memory c.go.ensures.ended driven) in elim c.in-Ok-Quiet.is [ inl is ↦ rw is at came | inr is ↦ rw is at came ];
 }
 
 pub returns-in-Ok-Ended-clause-goes : goal.returns-in-Ok-Ended-clause-goes
