@@ -4,7 +4,7 @@ ghost use Rattle.std.specs.Prelude.{◌≡◌, ◌≤◌, ◌+◌, ◌++◌, ◌
 ghost use Rattle.ompt_cli.specs.Guests.{HandOut, guests_of};
 
 use ompt_calls::{Call, Snapshot};
-use std::alloc::{AllocError, Global};
+use std::alloc::Global;
 use tool_api::{GuestTool, Handed, Quiet, Registrar, Response, ToolPart};
 
 /// Guests, in their order.
@@ -51,11 +51,7 @@ pub(crate) struct Handing {
 }
 
 /// A part for each thread: guest t for thread t, and none for threads past the guests.
-pub(crate) fn hand_out_all(
-    alloc: Global,
-    threads: u8,
-    guests: Guests,
-) -> Result<Handing, AllocError>
+pub(crate) fn hand_out_all(alloc: Global, threads: u8, guests: Guests) -> Result<Handing, Memory>
     ensures handed { IfOk result (λ handing.
         HandOut (λ guest. guest.0) guests.items handing.parts.items (reverse handing.waiting.items)) }
     ensures each { IfOk result (λ handing. length handing.parts.items ≡ threads) }

@@ -1,10 +1,9 @@
 use Rattle.std.proofs.Common.{ℕ, ◌∙◌, List, ap, subst, sym}
-use Rattle.ompt_cli.specs.Names.{records_of, trace_with, fields_of, spelling, AreShared, Recording}
 use Rattle.run_trace.proofs.Traces.{traces_of_runs}
-use Rattle.ompt_cli.specs.Commands.{HasGuests, HasWritten, run_of, unless_memory}
+use Rattle.ompt_cli.specs.Names.{records_of, trace_with, fields_of, spelling, AreShared, Recording}
 use Rattle.ompt_cli.proofs.Telling.{command-is, few-threads, guests-kept, some-threads, written-as}
-use Rattle.ompt_cli.proofs.{Keeping.kept-shared, Filing.ends-found, Filing.shared-few}
-use Rattle.ompt_cli.proofs.recording.record.Goals as goal
+use Rattle.ompt_cli.{specs.Commands.HasGuests, specs.Commands.HasWritten, specs.Commands.run_of, specs.Commands.unless_memory, proofs.Keeping.kept-shared, proofs.Written.ends-found, proofs.Written.shared-few}
+use Rattle.ompt_cli.proofs.reporting.record.Goals as goal
 
 pub write_trace_of_run-end-requires : goal.write_trace_of_run-end-requires
 write_trace_of_run-end-requires g c =
@@ -18,8 +17,7 @@ returns-clause-ran g c =
     let report = c.in_ok-report.field-0.report in
     let has = c.in_ok-report.ensures.kept in
     let command = command-is c.args.job report has.observes ∙ c.requires.command in
-    let shared : AreShared (records_of (run_of report) report.history) c.deref.result.now = rw c.deref.ensures.value (kept-shared _ _ has.kept) in
-    record {
+    let shared : AreShared (records_of (run_of report) report.history) c.deref.result.now = rw c.deref.ensures.value (kept-shared _ _ has.kept) in record {
       observes = has.observes;
       stays = λ other. has.stays;
       ended = c.write_trace_of_run-end.ensures.end;

@@ -1,5 +1,5 @@
-use Rattle.ompt_cli.proofs.Filing.{unless-found}
-use Rattle.ompt_cli.proofs.recording.write_trace_of_run.Goals as goal
+use Rattle.ompt_cli.proofs.Written.{unless-found}
+use Rattle.ompt_cli.proofs.reporting.write_trace_of_run.Goals as goal
 
 pub returns-clause-written : goal.returns-clause-written
 returns-clause-written g c = λ events shared.

@@ -1,18 +1,15 @@
 use Rattle.std.proofs.Common.{ℕ, ◌++◌, ◌∙◌, List, ap, subst, sym}
 use Rattle.std.proofs.lemmas.Result.{IfOk-weaker}
-use Rattle.ompt_cli.specs.Names.{records_of, profile_of, Running}
 use Rattle.ompt_words.specs.declared.settings.RunOutput.TheVariants as output
-use Rattle.ompt_cli.specs.Commands.{HasGuests, run_of}
-use Rattle.ompt_cli.proofs.Telling.{command-is, written-as}
-use Rattle.ompt_cli.proofs.run.run_profiled.Goals as goal
+use Rattle.ompt_cli.{specs.Names.records_of, specs.Names.profile_of, specs.Names.Running, specs.Commands.HasGuests, specs.Commands.run_of, proofs.Telling.command-is, proofs.Telling.written-as}
+use Rattle.ompt_cli.proofs.run.run_profile.Goals as goal
 
 pub returns-clause-ran : goal.returns-clause-ran
 returns-clause-ran g c =
-    let report = c.in_ok-report.field-0.report in
-    let has = c.in_ok-report.ensures in
+    let report = c.in_ok-observed.observed.report in
+    let has = c.in_ok-observed.ensures in
     let command = command-is c.args.job report has.observes ∙ c.requires.command in
-    let records = records_of (run_of report) report.history in
-    record {
+    let records = records_of (run_of report) report.history in record {
       observes = has.observes;
       stays = λ other. absurd (other (subst HasGuests (sym command) tt));
       ended = c.write_made-end.ensures.end;
@@ -22,8 +19,7 @@ returns-clause-ran g c =
       guests_are = has.guests;
       written =
           c.write_made-end.ensures.written _
-          (IfOk-weaker c.with_profile-made.result _ _ (λ text is. is records (rw c.deref.ensures.value has.counted)
-          ∙ ap (λ (printed : List ℕ). printed ++ profile_of records) has.printed
+          (IfOk-weaker c.with_profile-made.result _ _ (λ text is. is records (rw c.deref.ensures.value has.counted) ∙ ap (λ (printed : List ℕ). printed ++ profile_of records) has.printed
           ∙ written-as c.args.job report has.observes (Running output.Profile) c.requires.command) c.with_profile-made.ensures);
       faults = c.write_made-end.ensures.faults;
     }
