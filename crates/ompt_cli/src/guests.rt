@@ -5,7 +5,7 @@ ghost use Rattle.ompt_cli.specs.Guests.{HandOut, guests_of};
 
 use ompt_calls::{Call, Snapshot};
 use std::alloc::Global;
-use tool_api::{GuestTool, Handed, Quiet, Registrar, Response, ToolPart};
+use tool_api::{GuestTool, Handed, Memory, Quiet, Registrar, Response, ToolPart};
 
 /// Guests, in their order.
 pub(crate) type Guests = Vec<Box<dyn GuestTool>>;

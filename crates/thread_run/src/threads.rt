@@ -45,7 +45,7 @@ pub fn run_threads<R: Threads + Wait + Sync, P: ToolPart>(
     let blank = Blank::new(alloc, program, mask, limits)?;
     let (closed, mut parts) = run_team::<R, Brand, P>(rt, alloc, blank, parts)?;
     let cause = known_cause(closed.cause);
-    if cause == Cause::Memory && closed.history.entries().is_empty() {
+    if cause == Cause::Memory && closed.history.as_slice().is_empty() {
         return Err(AllocError);
     }
     finalize_first(start, &mut parts);
