@@ -24,7 +24,6 @@ mod member;
 mod own_cells;
 mod passing;
 mod prints;
-mod quick;
 mod settling;
 mod standing;
 mod statement;
