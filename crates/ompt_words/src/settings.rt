@@ -10,7 +10,7 @@ pub const DEFAULT_STEPS: u32 = 1_000_000;
 pub const DEFAULT_COLUMNS: u8 = 72;
 
 /// A command that runs a program.
-#[derive(Clone, Copy, PartialEq, Eq, Debug)]
+#[derive(Clone, Copy, PartialEq, Eq)]
 pub enum Command {
     /// It writes a line for each event.
     List,
@@ -27,7 +27,7 @@ pub enum Command {
 }
 
 /// What the command `run` writes of its run.
-#[derive(Clone, Copy, PartialEq, Eq, Debug)]
+#[derive(Clone, Copy, PartialEq, Eq)]
 pub enum RunOutput {
     /// What the program prints.
     Printed,
@@ -38,7 +38,7 @@ pub enum RunOutput {
 }
 
 /// A command that reads what a run has left: a trace or a history.
-#[derive(Clone, Copy, PartialEq, Eq, Debug)]
+#[derive(Clone, Copy, PartialEq, Eq)]
 pub enum ReadCommand {
     /// It writes a line for each event of a trace, and one for the end.
     Show,
@@ -53,7 +53,7 @@ pub enum ReadCommand {
 }
 
 /// How a program is to run.
-#[derive(Clone, Copy, PartialEq, Eq, Debug)]
+#[derive(Clone, Copy, PartialEq, Eq)]
 pub struct Settings {
     /// The command.
     pub command: Command,
@@ -66,7 +66,7 @@ pub struct Settings {
 }
 
 /// What the words ask for.
-#[derive(Clone, Copy, PartialEq, Eq, Debug)]
+#[derive(Clone, Copy, PartialEq, Eq)]
 pub enum Request {
     /// A run of a program.
     Run(Settings),

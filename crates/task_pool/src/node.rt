@@ -6,7 +6,7 @@ ghost use Rattle.task_pool.specs.Chain.{fresh_node, no_node, no_region};
 use crate::task::{Condition, Task, TaskId, TaskKind};
 
 /// The neighbours of a task in an order, each 0 where there is none.
-#[derive(Clone, Copy, Debug, PartialEq, Eq)]
+#[derive(Clone, Copy)]
 pub struct Links {
     /// The one before it.
     pub previous: TaskId,
@@ -15,7 +15,7 @@ pub struct Links {
 }
 
 /// A task with what is kept beside it.
-#[derive(Clone, Copy, Debug, PartialEq, Eq)]
+#[derive(Clone, Copy)]
 pub struct Node {
     /// The task.
     pub task: Task,
@@ -28,7 +28,7 @@ pub struct Node {
 }
 
 /// What is kept of a region.
-#[derive(Clone, Copy, Debug, PartialEq, Eq)]
+#[derive(Clone, Copy)]
 pub struct RegionTasks {
     /// The ready task of the region that became ready first, or 0.
     pub first_ready: TaskId,

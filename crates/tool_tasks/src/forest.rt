@@ -22,7 +22,7 @@ use std::alloc::{AllocError, Global};
 use trace_format::Trace;
 
 /// A task of a trace, with links to other tasks: their identities, or 0.
-#[derive(Clone, Copy, Debug, PartialEq, Eq)]
+#[derive(Clone, Copy, PartialEq, Eq)]
 pub struct TaskNode {
     /// The task's identity.
     pub identity: u32,

@@ -4,7 +4,7 @@ use trace_check::Breach;
 use trace_format::Refusal;
 
 /// Why no nested trace was read.
-#[derive(Clone, Copy, Debug, PartialEq, Eq)]
+#[derive(Clone, Copy, PartialEq, Eq)]
 pub enum Unread {
     /// The input is no trace.
     Refused(Refusal),

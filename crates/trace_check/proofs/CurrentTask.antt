@@ -129,7 +129,8 @@ opened_current past event bracket unbroken keeps opens =
         subst (λ (b : Bracket). with_seat next.identity None ≡ current_with (joins past) (current_in (b ∷ opened event.thread past))) one.0
         (placed next.identity None (seat_in next.identity (joins past))
         (sym (no_place next.identity (joins past) (created_joined next.identity past unbroken made))))
-    by-call (ParallelEnd region task flags codeptr) is tasks starts = absurd (closing_opens (Parallel region.identity) bracket is)
+    by-call (ParallelEnd region task flags codeptr) is tasks starts =
+        absurd (closing_opens (Parallel region.identity) bracket is)
     by-call other is tasks starts = absurd (staying_opens bracket is)
 
 -- ---- events that open none

@@ -4,7 +4,7 @@ use crate::breach::Breach;
 use trace_format::Refusal;
 
 /// How the checking of a trace ended.
-#[derive(Clone, Copy, Debug, PartialEq, Eq)]
+#[derive(Clone, Copy, PartialEq, Eq)]
 pub enum Checked {
     /// The input was read to its end, and is a trace that breaks no rule.
     Nested,

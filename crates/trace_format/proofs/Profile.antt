@@ -99,7 +99,7 @@ profile_bits n = elim (cases_lt n 64) [
       rw (zero_bit, none) refl
 ]
 
--- a callback of the same number with these arguments. Where an argument is missing or of another shape, a 0 stands for it
+-- an argument by its place, and as a number, a word or a frame. One that is missing, or of another shape, is 0
 abbrev argument_of : ℕ → List Argument → Argument
 argument_of n [] = argument.Short 0
 argument_of zero (first ∷ rest) = first
@@ -134,6 +134,7 @@ module _ (args : List Argument) where
   abbrev frame : ℕ → Frame
   frame n = frame_in (argument_of n args)
 
+  -- a callback of the same number with these arguments
   abbrev with_arguments : Call → Call
   with_arguments (ThreadBegin _ _) = ThreadBegin (short 0) (word 1)
   with_arguments (ThreadEnd _) = ThreadEnd (word 0)

@@ -3,7 +3,7 @@
 use crate::refusal::Refusal;
 
 /// How the reading of a trace's items ended.
-#[derive(Clone, Copy, Debug, PartialEq, Eq)]
+#[derive(Clone, Copy, PartialEq, Eq)]
 pub enum ReadEnd<Stop> {
     /// The input was read to its end, and is a trace.
     Whole,

@@ -1,7 +1,7 @@
 //! Pictures of a trace that is nested.
 
 /// A picture of a trace that is nested.
-#[derive(Clone, Copy, Debug, PartialEq, Eq)]
+#[derive(Clone, Copy, PartialEq, Eq)]
 pub enum Picture {
     /// The task tree in the language DOT of Graphviz, with a longest chain in bold.
     Tasks,

@@ -4,7 +4,7 @@ use trace_check::Breach;
 use trace_format::Refusal;
 
 /// How the viewing of a trace ended.
-#[derive(Clone, Copy, Debug, PartialEq, Eq)]
+#[derive(Clone, Copy, PartialEq, Eq)]
 pub enum Viewed {
     /// The input was read to its end and is a trace, and its picture was written.
     Whole,
