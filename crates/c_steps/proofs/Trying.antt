@@ -6,31 +6,21 @@ use Rattle.c_model.specs.Step.{step_of}
 use Rattle.c_model.specs.Task.{Outcome, Store}
 use Rattle.c_steps.specs.declared.item.Item.{Item}
 use Rattle.c_steps.specs.declared.next.Next.{Next}
-use Rattle.c_steps.specs.declared.next.Next.TheVariants as next
 use Rattle.c_steps.specs.declared.next.Refusal.{Refusal}
 use Rattle.c_steps.specs.declared.next.Refusal.TheVariants as refusal
-use Rattle.c_steps.specs.ControlView.{ControlView, here_at, moment_at, next_of_call}
+use Rattle.c_steps.specs.ControlView.{ControlView, here_at, moment_at}
 use Rattle.c_steps.specs.Items.{item_at}
 use Rattle.c_steps.specs.Ready.{AreFrames}
-use Rattle.c_steps.specs.Steps.{Advances, Tells}
-use Rattle.c_steps.specs.Trying.{IsAttempt, is_quiet}
+use Rattle.c_steps.specs.Steps.{Advances, Makes, Tells}
+use Rattle.c_steps.specs.Trying.{IsAttempt}
 
 -- what a step comes to, told by whether it was made
-pub attempt_of : (program : TreeView) (outcome : Outcome) (result : Next) (old new : ControlView) (before after : Store) →
-    Advances program result old before new after outcome → IsAttempt program (is_quiet result) old before new after outcome
-attempt_of program outcome next.Quiet old new before after is = record { step = sym is.step; kept = is.settled; frames = is.frames }
-attempt_of program outcome (next.Ask ask node) old new before after is = is.settled
-attempt_of program outcome (next.Event point node) old new before after is = is.settled
-attempt_of program outcome (next.Ended number) old new before after is = is.settled
-attempt_of program outcome (next.Trap trap) old new before after is = is.settled
-attempt_of program outcome (next.Limit limit) old new before after is = is.settled
-
--- a call that was tried, told by whether it began
-pub call_attempt : (program : TreeView) (outcome : Outcome) (result : Result (Unit {0}) Refusal) (old new : ControlView) (before after : Store) →
-    Advances program (next_of_call result) old before new after outcome → IsAttempt program (is_ok result) old before new after outcome
-call_attempt program outcome (Ok it) old new before after is = record { step = sym is.step; kept = is.settled; frames = is.frames }
-call_attempt program outcome (Err (refusal.Trap trap)) old new before after is = is.settled
-call_attempt program outcome (Err (refusal.Limit limit)) old new before after is = is.settled
+pub attempt_of : (program : TreeView) (outcome : Outcome) (result : Result (Unit {0}) Refusal) (old new : ControlView) (before after : Store) →
+    Makes program result old before new after outcome → IsAttempt program (is_ok result) old before new after outcome
+attempt_of program outcome (Ok it) old new before after is = record { step = sym is.step; kept = is.settled; frames = is.frames }
+attempt_of program outcome (Err (refusal.Trap trap)) old new before after is = is.settled
+attempt_of program outcome (Err (refusal.Limit limit)) old new before after is = is.settled
+attempt_of program outcome (Err (refusal.Test call codeptr wait_id to)) old new before after is = is.settled
 
 -- an answer at which nothing was done
 pub told_at : (program : TreeView) (outcome : Outcome) (result : Next) (held : ControlView) (store : Store) →

@@ -2,6 +2,8 @@
 use Rattle.std.specs.Prelude.{ℕ, List, ◌++◌, drop, take, Option, Result, Ok, Err, ℤ}
 use Rattle.c_syntax.specs.language.Numbered.{TreeView, tree_at}
 use Rattle.c_model.specs.declared.entry.Entry.{Entry}
+use Rattle.c_model.specs.declared.point.MutexKind.TheVariants as mutex
+use Rattle.c_model.specs.declared.point.Point.TheVariants.{MutexAcquire}
 use Rattle.c_model.specs.declared.view.View.{View}
 use Rattle.c_model.specs.Cells.{Bound}
 use Rattle.c_model.specs.Value.{Scope}
@@ -63,16 +65,12 @@ outcome_at program (next.Ended number) now = Ends number
 outcome_at program (next.Trap trap) now = Traps trap
 outcome_at program (next.Limit limit) now = Limits limit
 
--- the answer of a step that asks nothing and comes to no event: it was made, or it traps with this number
-abbrev pub next_of : Result (Unit {0}) ℕ → Next
+-- what a step comes to that was made, or wasn't
+abbrev pub next_of : Result (Unit {0}) Refusal → Next
 next_of (Ok it) = next.Quiet
-next_of (Err trap) = next.Trap trap
-
--- the same of a call that begins, or doesn't
-abbrev pub next_of_call : Result (Unit {0}) Refusal → Next
-next_of_call (Ok it) = next.Quiet
-next_of_call (Err (refusal.Trap trap)) = next.Trap trap
-next_of_call (Err (refusal.Limit limit)) = next.Limit limit
+next_of (Err (refusal.Trap trap)) = next.Trap trap
+next_of (Err (refusal.Limit limit)) = next.Limit limit
+next_of (Err (refusal.Test call codeptr wait_id to)) = next.Event (MutexAcquire codeptr wait_id mutex.TestLock to) call
 
 -- what the expressions of the function that was called last are evaluated in
 abbrev pub scope_in : TreeView → View → ControlView → Store → Scope

@@ -1,5 +1,5 @@
 -- A call that begins: its arguments, and the parameters that come into scope.
-use Rattle.std.specs.Prelude.{◌≡◌, ℕ, ◌+◌, ◌++◌, ◌≤◌, List, [], ◌∷◌, length, drop, take, Result, Ok, ℤ}
+use Rattle.std.specs.Prelude.{◌≡◌, ℕ, ◌+◌, ◌++◌, ◌≤◌, List, [], ◌∷◌, length, drop, take, IfSome, Result, Ok, ℤ}
 use Rattle.c_syntax.specs.language.Tree.{Tree, name_of}
 use Rattle.c_syntax.specs.language.Numbered.{TreeView}
 use Rattle.c_model.specs.declared.view.View.{View}
@@ -11,11 +11,18 @@ use Rattle.c_model.specs.Task.{StepStart, Moment, OpenCall, Store}
 use Rattle.c_model.specs.Task.Item.{FallOff, Start}
 use Rattle.c_model.specs.Value.{Scope, all_values}
 use Rattle.c_steps.specs.declared.evaluate.Argument.{Argument}
+use Rattle.c_steps.specs.declared.control.calls.Call.{Call}
 use Rattle.c_steps.specs.declared.control.entering.Caller.{Caller}
 use Rattle.c_steps.specs.Arguments.{values_in, without_values}
+use Rattle.c_steps.specs.Nodes.{IsPart}
 use Rattle.c_steps.specs.Rests.{parts_from}
+use Rattle.c_steps.specs.Rooming.{IsEntry}
 use Rattle.c_steps.specs.ControlView.{ControlView, env_at}
 use Rattle.c_steps.specs.Items.{file_names}
+
+-- the parts of a call that begins are of the program
+abbrev pub IsCall : TreeView → Call → Type 0
+IsCall program call = IsPart program.trees call.part × IfSome call.declared IsEntry
 
 -- the arguments of a call from a place on, or their first trap
 abbrev pub arguments_from : Scope → Tree → ℕ → Result (List ℤ) ℕ

@@ -1,11 +1,5 @@
 -- What containers stand for that have room kept for more: what is in them, and how many more they take without memory.
 use Rattle.std.specs.Prelude.{ℕ, ◌≤◌, List}
-use Rattle.c_model.specs.declared.entry.Entry.{Entry}
-
--- the names in scope, the oldest first
-pub record NameList : Type 0 where
-  pub list : List Entry
-  pub free : ℕ
 
 -- a stack, its top first
 pub record Stacked (T : Type 0) : Type 0 where

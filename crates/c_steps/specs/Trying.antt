@@ -1,25 +1,16 @@
 -- A silent step that is tried: it was made, or nothing was done.
-use Rattle.std.specs.Prelude.{◌≡◌, ◌+◌, ◌<◌, Bool, true, false, List, [], ◌∷◌, ℕ, zero, suc, Some, None, drop, Ok, ℤ}
-use Rattle.c_syntax.specs.declared.node.Setting.{Setting}
+use Rattle.std.specs.Prelude.{◌≡◌, ◌+◌, ◌<◌, Bool, true, false, List, [], ◌∷◌, ℕ, zero, suc, Some, None, drop}
 use Rattle.c_syntax.specs.language.Numbered.{TreeView}
-use Rattle.c_syntax.specs.language.Tree.{Tree}
 use Rattle.c_model.specs.declared.view.View.{View}
 use Rattle.c_model.specs.declared.upcoming.Upcoming.TheVariants as upcoming
-use Rattle.c_model.specs.Cells.{cell_at}
-use Rattle.c_model.specs.StepOutcomes.{sets}
-use Rattle.c_model.specs.Statements.{new_number}
 use Rattle.c_model.specs.Step.{silent}
-use Rattle.c_model.specs.Task.{StepStart, Item as SeenItem, Outcome, Store}
+use Rattle.c_model.specs.Task.{Outcome, Store}
 use Rattle.c_model.specs.Task.Outcome.{StepsTo}
 use Rattle.c_model.specs.Upcoming.{upcoming_of}
-use Rattle.c_model.specs.Value.{Scope, cell_of}
-use Rattle.c_steps.specs.declared.control.quick.Change.{Change}
 use Rattle.c_steps.specs.declared.frame.Frame.{Frame}
 use Rattle.c_steps.specs.declared.frame.Frame.TheVariants as frame
 use Rattle.c_steps.specs.declared.item.Item.{Item}
 use Rattle.c_steps.specs.declared.item.Item.TheVariants as item
-use Rattle.c_steps.specs.declared.next.Next.{Next}
-use Rattle.c_steps.specs.declared.next.Next.TheVariants as next
 use Rattle.c_steps.specs.declared.plain.Part.{Part}
 use Rattle.c_steps.specs.declared.plain.Part.TheVariants as part
 use Rattle.c_steps.specs.declared.plain.Plain.{Plain}
@@ -109,16 +100,3 @@ pub record ComesTo (program : TreeView) (outcome : Outcome) (old : ControlView) 
 abbrev pub IsAttempt : TreeView → Bool → ControlView → Store → ControlView → Store → Outcome → Type 0
 IsAttempt program true old before new after outcome = ComesTo program outcome old new after
 IsAttempt program false old before new after outcome = (new ≡ old) × (after ≡ before)
-
-abbrev pub is_quiet : Next → Bool
-is_quiet next.Quiet = true
-is_quiet other = false
-
--- a statement that makes no step but this change of a cell comes to this, whatever stands next behind it
-abbrev pub IsChange : (List SeenItem → Outcome) → StepStart → Change → Type 0
-IsChange outcome here change = (items : List SeenItem) → outcome items ≡ sets here change.cell change.number items
-
--- an assignment of a number makes this change
-pub record IsAssignment (scope : Scope) (which : Setting) (place : Tree) (right : ℤ) (change : Change) : Type 0 where
-  pub cell : cell_of scope place ≡ Ok change.cell
-  pub number : new_number which (cell_at scope.cells change.cell) (Ok right) ≡ Ok change.number

@@ -8,10 +8,13 @@ ghost use Rattle.c_check.specs.Statements as statements;
 ghost use Rattle.c_model.specs.Clauses as clauses;
 ghost use Rattle.c_model.specs.Parts.{parts};
 ghost use Rattle.c_model.specs.Program.{place_of};
+ghost use Rattle.c_steps.specs.Expressions.{expression_of, is_of};
+ghost use Rattle.c_steps.specs.NodeTrees.{tree_of};
 ghost use Rattle.c_steps.specs.Nodes.{IsPart, part_at};
 ghost use Rattle.c_steps.specs.Rests.{clauses_from, statements_from, with_clause, with_statement, IsFound};
 
 use crate::code::Code;
+use crate::node::Node;
 use c_model::Schedule;
 use c_syntax::{NodeKind, ScheduleKind};
 
@@ -22,16 +25,23 @@ pub(crate) struct FoundPart {
     next: u32,
 }
 
+/// A clause that is an expression.
+#[derive(Clone, Copy)]
+pub(crate) enum Expression {
+    NumThreads,
+    If,
+}
+
 /// The next clause of a construct from a place on.
 #[tactic(auto, unfolding(c_model::specs::Clauses::clauses_among))]
-fn next_clause(code: &Code, construct: u32, place: u32) -> Option<FoundPart>
-    requires { construct < length code.now.trees }
-    ensures clauses { clauses_from (tree_at code.now.trees construct) place ≡
-        with_clause code.now.trees (tree_at code.now.trees construct) result }
-    ensures there { IsFound code.now.trees result }
+fn next_clause(construct: Node, place: u32) -> Option<FoundPart>
+    ensures clauses { clauses_from (tree_of construct.entry) place ≡
+        with_clause construct.entry.code.now.trees (tree_of construct.entry) result }
+    ensures there { IsFound construct.entry.code.now.trees result }
 {
+    let (code, number) = (construct.code, construct.number);
     let mut next = place;
-    while let Some(child) = code.part(Some(construct), next) {
+    while let Some(child) = code.part(Some(number), next) {
         next += 1;
         if let NodeKind::Clause(_) = code.kind(Some(child)) {
             let part = code.child(Some(child), 0);
@@ -43,15 +53,15 @@ fn next_clause(code: &Code, construct: u32, place: u32) -> Option<FoundPart>
 
 /// The next part of a construct behind its clauses, from a place on.
 #[tactic(auto, unfolding(c_model::specs::Clauses::statements_among))]
-fn next_statement(code: &Code, construct: u32, place: u32) -> Option<FoundPart>
-    requires { construct < length code.now.trees }
-    ensures statements { statements_from (tree_at code.now.trees construct) place ≡
-        with_statement code.now.trees (tree_at code.now.trees construct) result }
-    ensures there { IsFound code.now.trees result }
+fn next_statement(construct: Node, place: u32) -> Option<FoundPart>
+    ensures statements { statements_from (tree_of construct.entry) place ≡
+        with_statement construct.entry.code.now.trees (tree_of construct.entry) result }
+    ensures there { IsFound construct.entry.code.now.trees result }
     ensures ahead { IfSome result (λ found. place < found.next) }
 {
+    let (code, number) = (construct.code, construct.number);
     let mut next = place;
-    while let Some(child) = code.part(Some(construct), next) {
+    while let Some(child) = code.part(Some(number), next) {
         next += 1;
         if !is_head(code.kind(Some(child))) {
             let part = Some(child);
@@ -68,17 +78,16 @@ fn is_head(kind: NodeKind) -> bool
     matches!(kind, NodeKind::Clause(_) | NodeKind::Name)
 }
 
-/// The expression of a construct's `num_threads` clause, if it has one.
+/// The expression of a construct's clause of this kind, if it has one.
 #[tactic(auto, unfolding(c_model::specs::Clauses::expression_among, c_check::specs::Tasks::from_place))]
-pub(crate) fn requested_threads(code: &Code, construct: u32) -> Option<Option<u32>>
-    requires { construct < length code.now.trees }
-    ensures clause { option_map (part_at code.now.trees) result ≡
-        clauses.requested_threads (tree_at code.now.trees construct) }
-    ensures there { IfSome result (IsPart code.now.trees) }
+pub(crate) fn clause_expression(construct: Node, which: Expression) -> Option<Option<u32>>
+    ensures clause { option_map (part_at construct.entry.code.now.trees) result ≡
+        expression_of which (tree_of construct.entry) }
+    ensures there { IfSome result (IsPart construct.entry.code.now.trees) }
 {
-    let mut place = 0;
-    while let Some(found) = next_clause(code, construct, place) {
-        if let NodeKind::NumThreads = code.kind(found.part) {
+    let (code, mut place) = (construct.code, 0);
+    while let Some(found) = next_clause(construct, place) {
+        if is_of(which, code.kind(found.part)) {
             return Some(code.child(found.part, 0));
         }
         place = found.next;
@@ -86,33 +95,24 @@ pub(crate) fn requested_threads(code: &Code, construct: u32) -> Option<Option<u3
     None
 }
 
-/// The expression of a construct's `if` clause, if it has one.
-#[tactic(auto, unfolding(c_model::specs::Clauses::expression_among, c_check::specs::Tasks::from_place))]
-pub(crate) fn condition(code: &Code, construct: u32) -> Option<Option<u32>>
-    requires { construct < length code.now.trees }
-    ensures clause { option_map (part_at code.now.trees) result ≡
-        clauses.condition_of (tree_at code.now.trees construct) }
-    ensures there { IfSome result (IsPart code.now.trees) }
+/// Whether a clause is of this kind.
+fn is_of(which: Expression, kind: NodeKind) -> bool
+    ensures { result ≡ is_of which kind }
 {
-    let mut place = 0;
-    while let Some(found) = next_clause(code, construct, place) {
-        if let NodeKind::IfClause = code.kind(found.part) {
-            return Some(code.child(found.part, 0));
-        }
-        place = found.next;
+    match which {
+        Expression::NumThreads => matches!(kind, NodeKind::NumThreads),
+        Expression::If => matches!(kind, NodeKind::IfClause),
     }
-    None
 }
 
 /// Whether a construct has a `nowait` clause.
 #[tactic(auto, unfolding(c_check::specs::Tasks::from_place))]
-pub(crate) fn has_nowait(code: &Code, construct: u32) -> bool
-    requires { construct < length code.now.trees }
-    ensures { result ≡ clauses.has_nowait (tree_at code.now.trees construct) }
+pub(crate) fn has_nowait(construct: Node) -> bool
+    ensures { result ≡ clauses.has_nowait (tree_of construct.entry) }
 {
     let mut place = 0;
-    while let Some(found) = next_clause(code, construct, place) {
-        if let NodeKind::Nowait = code.kind(found.part) {
+    while let Some(found) = next_clause(construct, place) {
+        if let NodeKind::Nowait = construct.code.kind(found.part) {
             return true;
         }
         place = found.next;
@@ -122,12 +122,11 @@ pub(crate) fn has_nowait(code: &Code, construct: u32) -> bool
 
 /// How the iterations of a construct's loop are dealt: by its `schedule` clause, and without one in blocks.
 #[tactic(auto, unfolding(c_model::specs::Clauses::schedule_among, c_check::specs::Tasks::from_place))]
-pub(crate) fn schedule(code: &Code, construct: u32) -> Schedule
-    requires { construct < length code.now.trees }
-    ensures { result ≡ clauses.schedule_of (tree_at code.now.trees construct) }
+pub(crate) fn schedule(construct: Node) -> Schedule
+    ensures { result ≡ clauses.schedule_of (tree_of construct.entry) }
 {
-    let mut place = 0;
-    while let Some(found) = next_clause(code, construct, place) {
+    let (code, mut place) = (construct.code, 0);
+    while let Some(found) = next_clause(construct, place) {
         if let NodeKind::Schedule(which) = code.kind(found.part) {
             return schedule_by(code, which, found.part);
         }
@@ -161,12 +160,11 @@ fn chunk_size(code: &Code, clause: Option<u32>, other: u32) -> u32
 }
 
 /// The statement of a construct. A part that is missing where it has none.
-pub(crate) fn statement(code: &Code, construct: u32) -> Option<u32>
-    requires { construct < length code.now.trees }
-    ensures statement { part_at code.now.trees result ≡ clauses.construct_statement (tree_at code.now.trees construct) }
-    ensures there { IsPart code.now.trees result }
+pub(crate) fn statement(construct: Node) -> Option<u32>
+    ensures statement { part_at construct.entry.code.now.trees result ≡ clauses.construct_statement (tree_of construct.entry) }
+    ensures there { IsPart construct.entry.code.now.trees result }
 {
-    match next_statement(code, construct, 0) {
+    match next_statement(construct, 0) {
         Some(found) => found.part,
         None => None,
     }
@@ -174,12 +172,11 @@ pub(crate) fn statement(code: &Code, construct: u32) -> Option<u32>
 
 /// How many sections a construct has.
 #[tactic(auto, unfolding(c_check::specs::Tasks::from_place))]
-pub(crate) fn section_count(code: &Code, construct: u32) -> u32
-    requires { construct < length code.now.trees }
-    ensures { result ≡ length (clauses.sections_of (tree_at code.now.trees construct)) }
+pub(crate) fn section_count(construct: Node) -> u32
+    ensures { result ≡ length (clauses.sections_of (tree_of construct.entry)) }
 {
     let (mut count, mut place) = (0, 0);
-    while let Some(found) = next_statement(code, construct, place) {
+    while let Some(found) = next_statement(construct, place) {
         count += 1;
         place = found.next;
     }
@@ -188,25 +185,23 @@ pub(crate) fn section_count(code: &Code, construct: u32) -> u32
 
 /// What a section executes, counted from 0. A part that is missing past the last.
 #[tactic(auto, using(crate::proofs::Sections::nth_section))]
-pub(crate) fn section(code: &Code, construct: u32, number: u32) -> Option<u32>
-    requires { construct < length code.now.trees }
-    ensures statement { part_at code.now.trees result ≡
-        slice_index_or (clauses.sections_of (tree_at code.now.trees construct)) number nothing }
-    ensures there { IsPart code.now.trees result }
+pub(crate) fn section(construct: Node, number: u32) -> Option<u32>
+    ensures statement { part_at construct.entry.code.now.trees result ≡
+        slice_index_or (clauses.sections_of (tree_of construct.entry)) number nothing }
+    ensures there { IsPart construct.entry.code.now.trees result }
 {
-    section_statement(code, nth_statement(code, construct, number))
+    section_statement(construct.code, nth_statement(construct, number))
 }
 
 /// A part of a construct behind its clauses, counted from 0. A part that is missing past the last.
 #[tactic(auto, unfolding(c_check::specs::Tasks::from_place))]
-fn nth_statement(code: &Code, construct: u32, number: u32) -> Option<u32>
-    requires { construct < length code.now.trees }
-    ensures statement { part_at code.now.trees result ≡
-        slice_index_or (clauses.statements_among (parts (tree_at code.now.trees construct))) number nothing }
-    ensures there { IsPart code.now.trees result }
+fn nth_statement(construct: Node, number: u32) -> Option<u32>
+    ensures statement { part_at construct.entry.code.now.trees result ≡
+        slice_index_or (clauses.statements_among (parts (tree_of construct.entry))) number nothing }
+    ensures there { IsPart construct.entry.code.now.trees result }
 {
     let (mut left, mut place) = (number, 0);
-    while let Some(found) = next_statement(code, construct, place) {
+    while let Some(found) = next_statement(construct, place) {
         if left == 0 {
             return found.part;
         }
@@ -223,7 +218,11 @@ impl Code {
         ensures { result ≡ place_of (slice_index_or
             (clauses.statements_among (parts (tree_at self.now.trees construct))) number nothing) }
     {
-        match nth_statement(self, construct, number) {
+        let construct = Node {
+            code: self,
+            number: construct,
+        };
+        match nth_statement(construct, number) {
             Some(part) => self.place(part),
             None => 0,
         }

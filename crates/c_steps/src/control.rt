@@ -24,7 +24,6 @@ mod member;
 mod own_cells;
 mod passing;
 mod prints;
-mod quick;
 mod settling;
 mod standing;
 mod statement;
@@ -35,9 +34,9 @@ mod upcoming;
 
 use crate::frame::Frame;
 use crate::item::Item;
-use crate::names::Names;
 use crate::stack::Stack;
 use c_model::{Entry, Target};
+use kept_room::Roomy;
 use std::marker::Model;
 
 /// What is left of a task's code: what stands next, the names in scope, the calls that are open. Contracts see, by the numbers of nodes, what
@@ -45,7 +44,7 @@ use std::marker::Model;
 #[derive(Drop)]
 pub struct Control {
     stack: Stack<Frame>,
-    names: Names,
+    names: Roomy<Entry>,
     /// Where the names of the function that was called last begin.
     base: usize,
     /// What the last call that ended gave.

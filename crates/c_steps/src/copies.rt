@@ -1,37 +1,31 @@
 //! A construct's own copies of variables: how many cells they have, and how they are made.
 
-ghost use Rattle.std.specs.Prelude.{◌≡◌, ◌+◌, ◌-◌, ◌<◌, ◌≤◌, length, min, take};
-ghost use Rattle.c_syntax.specs.language.Numbered.{tree_at};
+ghost use Rattle.std.specs.Prelude.{◌≡◌, ◌+◌, ◌-◌, ◌≤◌, length, min, take};
 ghost use Rattle.c_model.specs.Cells.{entry_at_slot, entry_of, new_entry};
 ghost use Rattle.c_model.specs.Clauses.Copying.{First};
 ghost use Rattle.c_model.specs.Copies as copies;
 ghost use Rattle.c_model.specs.Copies.{copied_numbers, listed_variables};
 ghost use Rattle.c_model.specs.declared.limits.TheConstants.{CELL_LIMIT};
 ghost use Rattle.c_steps.specs.ListedNames.{copying_of};
+ghost use Rattle.c_steps.specs.NodeTrees.{tree_of};
 ghost use Rattle.c_steps.specs.OwnCells.{around_of, copy_cells, listed_cells, room_behind, slot_cells, with_numbers};
 ghost use Rattle.c_steps.specs.Rooming.{IsEntry};
 
 use crate::cells::Cells;
-use crate::code::Code;
 use crate::listed::{Copying, ListedName, first_listed, next_listed};
+use crate::node::Node;
 use crate::scope::Scope;
 use c_model::Entry;
 use c_syntax::ReductionOp;
 
 /// The room for cells that copies of the variables leave that a construct's clauses list. `None` where it isn't enough for them.
 #[tactic(auto, using(crate::proofs::Counting::room_one_more), unfolding(crate::specs::OwnCells::listed_cells))]
-pub(crate) fn room_behind_listed(
-    code: &Code,
-    scope: &Scope,
-    construct: u32,
-    room: usize,
-) -> Option<usize>
-    requires { construct < length code.now.trees }
+pub(crate) fn room_behind_listed(scope: &Scope, construct: Node, room: usize) -> Option<usize>
     ensures { result ≡ room_behind (listed_cells (around_of scope.now)
-        (listed_variables (tree_at code.now.trees construct))) room }
+        (listed_variables (tree_of construct.entry))) room }
 {
     let (mut left, mut place) = (room, first_listed());
-    while let Some(found) = next_listed(code, construct, place) {
+    while let Some(found) = next_listed(construct, place) {
         match left.checked_sub(copy_size(scope, found.listed)) {
             None => return None,
             Some(rest) => {

@@ -1,6 +1,6 @@
 //! The numbers of expressions in a scope.
 
-ghost use Rattle.std.specs.Prelude.{◌≡◌, ◌<◌, ◌≤◌, length, pos, IfOk, IfSome, Ok};
+ghost use Rattle.std.specs.Prelude.{◌≡◌, ◌<◌, ◌≤◌, length, pos, IfOk};
 ghost use Rattle.c_syntax.specs.language.Numbered.{tree_at};
 ghost use Rattle.c_model.specs.declared.limits.TheConstants.{CELL_LIMIT};
 ghost use Rattle.c_model.specs.Cells.{cell_at, entry_at_slot, entry_of};
@@ -23,9 +23,8 @@ use crate::scope::Scope;
 use c_model::{Entry, INDEX, View};
 use c_syntax::{BinaryOp, Getter, NodeKind, UnaryOp};
 
-/// How many operators deep an expression may be for its number to be tried first without a trap. That of a deeper one is found by
-/// [`Scope::node_value`] alone.
-const QUICK_DEPTH: u32 = 64;
+/// How many binary operators may stand in one another whose numbers are found by calls in one another. What is deeper is found chain by chain.
+const DEPTH: u32 = 64;
 
 /// The number of an argument of a call, and the place of the next one.
 #[derive(Clone, Copy)]
@@ -60,7 +59,7 @@ impl<'a> Scope<'a> {
         ensures { result ≡ value (scope_of self.now) (part_at self.now.tree.now.trees part) }
     {
         match part {
-            Some(node) => self.node_value(node),
+            Some(node) => self.node_value(node, DEPTH),
             None => Ok(0),
         }
     }
@@ -74,7 +73,7 @@ impl<'a> Scope<'a> {
         ensures within { AreEntries (scope_of self.now).env → IfOk result (λ cell. cell ≤ CELL_LIMIT) }
     {
         match place {
-            Some(node) => self.node_cell(node),
+            Some(node) => self.node_cell(node, DEPTH),
             None => Ok(self.entry(0).first as usize),
         }
     }
@@ -89,7 +88,7 @@ impl<'a> Scope<'a> {
     {
         let mut place = 0;
         while let Some(child) = self.tree.child(node, place) {
-            match self.node_value(child) {
+            match self.node_value(child, DEPTH) {
                 Err(trap) => return Err(trap),
                 Ok(_) => place += 1,
             }
@@ -105,7 +104,7 @@ impl<'a> Scope<'a> {
         ensures { IsNextArgument (scope_of self.now) (part_at self.now.tree.now.trees call) place result }
     {
         match next_part(self.tree, call, place) {
-            Some(child) => match self.node_value(child) {
+            Some(child) => match self.node_value(child, DEPTH) {
                 Ok(number) => Argument {
                     number,
                     next: place + 1,
@@ -119,94 +118,48 @@ impl<'a> Scope<'a> {
         }
     }
 
-    /// The number of an expression, or its trap.
+    /// The number of an expression, or its trap. A chain of operators that is no longer than this depth is told by calls in one another.
     #[cycle(values)]
     #[tactic(auto, using(crate::proofs::Values::value_is, crate::proofs::Values::cell_is))]
-    pub(crate) fn node_value(&self, node: u32) -> Result<i32, u8>
+    fn node_value(&self, node: u32, depth: u32) -> Result<i32, u8>
         requires { node < length self.now.tree.now.trees }
         ensures { result ≡ value (scope_of self.now) (tree_at self.now.tree.now.trees node) }
     {
         match self.tree.kind(node) {
             NodeKind::Number => Ok(self.tree.number(node)),
-            NodeKind::Place => match self.node_cell(node) {
+            NodeKind::Place => match self.node_cell(node, depth) {
                 Err(trap) => Err(trap),
                 Ok(cell) => Ok(number_in(self.cells, cell)),
             },
-            NodeKind::Paren => self.operand(node, 0),
+            NodeKind::Paren => self.operand(node, 0, depth),
             NodeKind::Getter(which) => Ok(thread_number(which, self.view)),
-            NodeKind::Unary(operator) => self.unary(operator, node),
-            NodeKind::Binary(operator) => self.binary(operator, node),
+            NodeKind::Unary(operator) => self.unary(operator, node, depth),
+            NodeKind::Binary(operator) => match depth.checked_sub(1) {
+                Some(depth) => self.joined(operator, node, self.operand(node, 0, depth), depth),
+                None => self.binary(operator, node),
+            },
             _ => Ok(0),
         }
     }
 
-    /// The number of an expression, if it has no trap. One that is missing is 0.
-    #[tactic(auto, using(crate::proofs::Values::value_is))]
-    #[inline(always)]
-    pub(crate) fn quick_value(&self, part: Option<u32>) -> Option<i32>
-        requires { IsPart self.now.tree.now.trees part }
-        ensures { IfSome result (λ number. value (scope_of self.now) (part_at self.now.tree.now.trees part) ≡
-            Ok number) }
-    {
-        match part {
-            Some(node) => self.quick_node(node, QUICK_DEPTH),
-            None => Some(0),
-        }
-    }
-
-    /// The cell of a place, if it has no trap.
-    #[inline(always)]
-    pub(crate) fn quick_place(&self, place: Option<u32>) -> Option<usize>
-        requires { IsPart self.now.tree.now.trees place }
-        ensures { IfSome result (λ cell. cell_of (scope_of self.now) (part_at self.now.tree.now.trees place) ≡
-            Ok cell) }
-    {
-        match place {
-            Some(node) => self.quick_cell(node, QUICK_DEPTH),
-            None => None,
-        }
-    }
-
-    /// The number of an expression, if it has no trap and is no more than so many operators deep.
-    #[cycle(quick)]
-    #[tactic(auto, using(crate::proofs::Values::value_is, crate::proofs::Values::cell_is))]
-    fn quick_node(&self, node: u32, depth: u32) -> Option<i32>
-        requires { node < length self.now.tree.now.trees }
-        ensures { IfSome result (λ number. value (scope_of self.now) (tree_at self.now.tree.now.trees node) ≡
-            Ok number) }
-    {
-        match self.tree.kind(node) {
-            NodeKind::Number => Some(self.tree.number(node)),
-            NodeKind::Place => {
-                let cell = self.quick_cell(node, depth)?;
-                Some(number_in(self.cells, cell))
-            }
-            NodeKind::Paren => self.quick_operand(node, 0, depth),
-            NodeKind::Getter(which) => Some(thread_number(which, self.view)),
-            NodeKind::Unary(operator) => self.quick_unary(operator, node, depth),
-            NodeKind::Binary(operator) => self.quick_binary(operator, node, depth),
-            _ => Some(0),
-        }
-    }
-
-    /// The number of an operand, if it has no trap. One that is missing is 0. Numbers and plain names are told without a call.
-    #[cycle(quick)]
+    /// The number of an operand. One that is missing is 0. Numbers and plain names are told without a call.
+    #[cycle(values)]
     #[tactic(auto, using(crate::proofs::Values::value_is, crate::proofs::Values::cell_is))]
     #[inline(always)]
-    fn quick_operand(&self, node: u32, place: u32, depth: u32) -> Option<i32>
+    fn operand(&self, node: u32, place: u32, depth: u32) -> Result<i32, u8>
         requires { node < length self.now.tree.now.trees }
-        ensures { IfSome result (λ number. operand_at self.now node place ≡ Ok number) }
+        ensures { result ≡ operand_at self.now node place }
     {
         let Some(child) = self.tree.child(node, place) else {
-            return Some(0);
+            return Ok(0);
         };
         match self.tree.kind(child) {
-            NodeKind::Number => Some(self.tree.number(child)),
+            NodeKind::Number => Ok(self.tree.number(child)),
             NodeKind::Place => match self.tree.child(child, 0) {
-                None => Some(self.named_number(self.tree.name(child))),
-                Some(_) => self.quick_node(child, depth),
+                None => Ok(self.named_number(self.tree.name(child))),
+                Some(_) => self.node_value(child, depth),
             },
-            _ => self.quick_node(child, depth),
+            _ => self.node_value(child, depth),
         }
     }
 
@@ -218,84 +171,17 @@ impl<'a> Scope<'a> {
         number_in(self.cells, self.entry(name).first as usize)
     }
 
-    /// The cell of a place, if it has no trap.
-    #[cycle(quick)]
-    #[tactic(auto, using(crate::proofs::Values::cell_is))]
-    #[inline(always)]
-    fn quick_cell(&self, node: u32, depth: u32) -> Option<usize>
-        requires { node < length self.now.tree.now.trees }
-        ensures { IfSome result (λ cell. cell_of (scope_of self.now) (tree_at self.now.tree.now.trees node) ≡ Ok cell) }
-    {
-        let entry = self.entry(self.tree.name(node));
-        match self.tree.child(node, 0) {
-            None => Some(entry.first as usize),
-            Some(child) => {
-                let index = self.quick_node(child, depth)?;
-                match element(entry, index) {
-                    Ok(cell) => Some(cell),
-                    Err(_) => None,
-                }
-            }
-        }
-    }
-
-    #[cycle(quick)]
-    #[inline(always)]
-    fn quick_unary(&self, operator: UnaryOp, node: u32, depth: u32) -> Option<i32>
-        requires { node < length self.now.tree.now.trees }
-        ensures { IfSome result (λ number. unary_value operator (operand_at self.now node 0) ≡ Ok number) }
-    {
-        let number = self.quick_operand(node, 0, depth)?;
-        match unary_result(operator, number) {
-            Ok(result) => Some(result),
-            Err(_) => None,
-        }
-    }
-
-    /// The right operand isn't looked at where the left one decides.
-    #[cycle(quick)]
-    #[inline(always)]
-    fn quick_binary(&self, operator: BinaryOp, node: u32, depth: u32) -> Option<i32>
-        requires { node < length self.now.tree.now.trees }
-        ensures { IfSome result (λ number.
-            binary_value operator (operand_at self.now node 0) (operand_at self.now node 1) ≡ Ok number) }
-    {
-        let depth = depth.checked_sub(1)?;
-        let left = self.quick_operand(node, 0, depth)?;
-        if let Some(number) = deciding_value(operator, left) {
-            return Some(number);
-        }
-        let right = self.quick_operand(node, 1, depth)?;
-        match binary_result(operator, left, right) {
-            Ok(result) => Some(result),
-            Err(_) => None,
-        }
-    }
-
-    /// The number of an operand. One that is missing is 0.
-    #[cycle(values)]
-    #[inline(always)]
-    fn operand(&self, node: u32, place: u32) -> Result<i32, u8>
-        requires { node < length self.now.tree.now.trees }
-        ensures { result ≡ operand_at self.now node place }
-    {
-        match self.tree.child(node, place) {
-            Some(child) => self.node_value(child),
-            None => Ok(0),
-        }
-    }
-
     #[cycle(values)]
     #[tactic(auto, using(crate::proofs::Values::cell_is))]
     #[inline(always)]
-    fn node_cell(&self, node: u32) -> Result<usize, u8>
+    fn node_cell(&self, node: u32, depth: u32) -> Result<usize, u8>
         requires { node < length self.now.tree.now.trees }
         ensures { result ≡ cell_of (scope_of self.now) (tree_at self.now.tree.now.trees node) }
     {
         let entry = self.entry(self.tree.name(node));
         match self.tree.child(node, 0) {
             None => Ok(entry.first as usize),
-            Some(child) => match self.node_value(child) {
+            Some(child) => match self.node_value(child, depth) {
                 Err(trap) => Err(trap),
                 Ok(index) => element(entry, index),
             },
@@ -304,11 +190,11 @@ impl<'a> Scope<'a> {
 
     #[cycle(values)]
     #[inline(always)]
-    fn unary(&self, operator: UnaryOp, node: u32) -> Result<i32, u8>
+    fn unary(&self, operator: UnaryOp, node: u32, depth: u32) -> Result<i32, u8>
         requires { node < length self.now.tree.now.trees }
         ensures { result ≡ unary_value operator (operand_at self.now node 0) }
     {
-        match self.operand(node, 0) {
+        match self.operand(node, 0, depth) {
             Err(trap) => Err(trap),
             Ok(number) => unary_result(operator, number),
         }
@@ -323,10 +209,10 @@ impl<'a> Scope<'a> {
         ensures { result ≡ value (scope_of self.now) (tree_at self.now.tree.now.trees node) }
     {
         match self.tree.child(node, 0) {
-            None => self.joined(operator, node, Ok(0)),
+            None => self.joined(operator, node, Ok(0), 0),
             Some(left) => {
                 let chain = chain_from(self.tree, left);
-                let lowest = self.node_value(chain.lowest);
+                let lowest = self.node_value(chain.lowest, 0);
                 self.chain_value(node, chain.levels + 1, lowest)
             }
         }
@@ -346,7 +232,7 @@ impl<'a> Scope<'a> {
     {
         if levels == 1 {
             return match self.tree.kind(node) {
-                NodeKind::Binary(operator) => self.joined(operator, node, lowest),
+                NodeKind::Binary(operator) => self.joined(operator, node, lowest, 0),
                 _ => unreachable!(),
             };
         }
@@ -358,7 +244,14 @@ impl<'a> Scope<'a> {
 
     /// The number of an operator by that of its left operand. The right one isn't looked at where the left one decides.
     #[cycle(values)]
-    fn joined(&self, operator: BinaryOp, node: u32, left: Result<i32, u8>) -> Result<i32, u8>
+    #[inline(always)]
+    fn joined(
+        &self,
+        operator: BinaryOp,
+        node: u32,
+        left: Result<i32, u8>,
+        depth: u32,
+    ) -> Result<i32, u8>
         requires { node < length self.now.tree.now.trees }
         ensures { result ≡ binary_value operator left (operand_at self.now node 1) }
     {
@@ -366,7 +259,7 @@ impl<'a> Scope<'a> {
             Err(trap) => Err(trap),
             Ok(left) => match deciding_value(operator, left) {
                 Some(number) => Ok(number),
-                None => match self.operand(node, 1) {
+                None => match self.operand(node, 1, depth) {
                     Err(trap) => Err(trap),
                     Ok(right) => binary_result(operator, left, right),
                 },

@@ -20,12 +20,12 @@
 //! Each answers, and leaves control and cells, as the definition of the same name has it. Only what makes a new value and `reserve` take
 //! memory; where they find none, nothing has changed.
 //!
-//! The modules: `code` with `file`, `functions`, `slots`, `widths`; `parts`, `clauses`, `listed` and `loops`, which read the tree; `scope`
-//! and `in_scope`, what an expression is evaluated in; `evaluate` with `numbers`, the numbers of expressions, and `printing`; `names`,
-//! `stack` and `cells`, which have room; `item`, `frame` and `look`, what stands next; `copies`, a construct's own cells; and `control`,
-//! with a file for each family of forms, `around` for the regions that a task is in, and `upcoming` for what comes next. In `specs/`
-//! `Items`, `ControlView`, `OfProgram`, `Passing` and `Advancing` are what contracts of public calls cite; the others serve those of
-//! private ones.
+//! The modules: `code` with `file`, `functions`, `slots`, `widths`, and `node`, a node of it; `parts`, `clauses`, `listed` and `loops`,
+//! which read the tree; `scope` and `in_scope`, what an expression is evaluated in; `evaluate` with `numbers`, the numbers of expressions,
+//! and `printing`; `stack` and `cells`, which have room, as the names in scope have by `kept_room`; `item`, `frame` and `look`, what stands
+//! next; `copies`, a construct's own cells; and `control`, with a file for each family of forms, `around` for the regions that a task is in,
+//! and `upcoming` for what comes next. In `specs/` `Items`, `ControlView`, `OfProgram`, `Passing` and `Advancing` are what contracts of
+//! public calls cite; the others serve those of private ones.
 //!
 //! Nothing is claimed of the time of a step. That the cells are those that the control's names have is the caller's to see to.
 #![tactic(auto)]
@@ -45,8 +45,8 @@ mod item;
 mod listed;
 mod look;
 mod loops;
-mod names;
 mod next;
+mod node;
 mod numbers;
 mod parts;
 mod plain;

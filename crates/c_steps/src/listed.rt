@@ -7,10 +7,11 @@ ghost use Rattle.c_model.specs.Clauses.{clauses_of, listed_among, listed_by};
 ghost use Rattle.c_model.specs.Copies as copies;
 ghost use Rattle.c_model.specs.Loops.{loop_of};
 ghost use Rattle.c_model.specs.Parts.{parts};
+ghost use Rattle.c_steps.specs.NodeTrees.{tree_of};
 ghost use Rattle.c_steps.specs.Nodes.{IsPart, part_at};
 ghost use Rattle.c_steps.specs.ListedNames.{listed_from, listed_in, names_by, names_from, with_found, with_name, with_name_of_clause, with_name_of_part, without_first};
 
-use crate::code::Code;
+use crate::node::Node;
 use crate::parts::{child_of_part, kind_of_part, name_of_part, next_part};
 use c_syntax::{Data, Directive, NodeKind, ReductionOp, Tree};
 use std::alloc::AllocError;
@@ -53,14 +54,12 @@ pub(crate) fn first_listed() -> ListedPlace
 }
 
 /// The next variable that a construct lists, from a place on.
-pub(crate) fn next_listed(code: &Code, construct: u32, from: ListedPlace) -> Option<FoundName>
-    requires { construct < length code.now.trees }
-    ensures { listed_from (tree_at code.now.trees construct) from ≡
-        with_found (tree_at code.now.trees construct) result }
+pub(crate) fn next_listed(construct: Node, from: ListedPlace) -> Option<FoundName>
+    ensures { listed_from (tree_of construct.entry) from ≡ with_found (tree_of construct.entry) result }
 {
     let mut place = from;
-    while let Some(found) = next_name(code.tree(), construct, place) {
-        if !is_own_loop_variable(code, construct, found.listed.name) {
+    while let Some(found) = next_name(construct.code.tree(), construct.number, place) {
+        if !is_own_loop_variable(construct, found.listed.name) {
             return Some(found);
         }
         place = found.next;
@@ -134,49 +133,45 @@ fn copying_by(kind: NodeKind) -> Option<Copying>
 }
 
 /// Whether a construct shares out a loop.
-pub(crate) fn is_loop(code: &Code, construct: u32) -> bool
-    requires { construct < length code.now.trees }
-    ensures { result ≡ copies.is_loop (tree_at code.now.trees construct) }
+pub(crate) fn is_loop(construct: Node) -> bool
+    ensures { result ≡ copies.is_loop (tree_of construct.entry) }
 {
     matches!(
-        code.tree().kind(construct),
+        construct.kind(),
         NodeKind::Construct(Directive::For | Directive::ParallelFor)
     )
 }
 
 /// The variable of the loop that a construct shares out: a place, or the name that the loop declares.
-pub(crate) fn loop_variable(code: &Code, construct: u32) -> Option<u32>
-    requires { construct < length code.now.trees }
-    ensures variable { part_at code.now.trees result ≡ (loop_of (tree_at code.now.trees construct)).variable }
-    ensures there { IsPart code.now.trees result }
+pub(crate) fn loop_variable(construct: Node) -> Option<u32>
+    ensures variable { part_at construct.entry.code.now.trees result ≡ (loop_of (tree_of construct.entry)).variable }
+    ensures there { IsPart construct.entry.code.now.trees result }
 {
-    match code.program().shared_loop(construct) {
+    match construct.code.program().shared_loop(construct.number) {
         Some(found) => Some(found.variable),
         None => None,
     }
 }
 
 /// Whether a name that a clause of a construct lists is that of the loop's own variable.
-fn is_own_loop_variable(code: &Code, construct: u32, name: u32) -> bool
-    requires { construct < length code.now.trees }
-    ensures { result ≡ copies.is_own_loop_variable (tree_at code.now.trees construct) name }
+fn is_own_loop_variable(construct: Node, name: u32) -> bool
+    ensures { result ≡ copies.is_own_loop_variable (tree_of construct.entry) name }
 {
-    if !is_loop(code, construct) {
+    if !is_loop(construct) {
         return false;
     }
-    let variable = loop_variable(code, construct);
-    match code.kind(variable) {
+    let variable = loop_variable(construct);
+    match construct.code.kind(variable) {
         NodeKind::Name => false,
-        _ => code.name(variable) == name,
+        _ => construct.code.name(variable) == name,
     }
 }
 
 /// Whether a construct makes cells of its own.
-pub(crate) fn has_own_cells(code: &Code, construct: u32) -> bool
-    requires { construct < length code.now.trees }
-    ensures { result ≡ copies.has_own_cells (tree_at code.now.trees construct) }
+pub(crate) fn has_own_cells(construct: Node) -> bool
+    ensures { result ≡ copies.has_own_cells (tree_of construct.entry) }
 {
-    is_loop(code, construct) || next_listed(code, construct, first_listed()).is_some()
+    is_loop(construct) || next_listed(construct, first_listed()).is_some()
 }
 
 /// How many variables the clauses of a construct list, the construct's own loop variable too. More than a `usize` counts are want of

@@ -13,6 +13,7 @@ use crate::code::Code;
 use crate::frame::Frame;
 use crate::item::Item;
 use crate::listed::{Copying, ListedPlace, next_listed};
+use crate::node::Node;
 use c_syntax::NodeKind;
 
 /// What a frame on top says of what stands next.
@@ -92,7 +93,8 @@ fn look_at_reductions(code: &Code, construct: u32, from: ListedPlace, names: usi
     requires { construct < length code.now.trees }
     ensures { Looks code.now (reductions_frame construct from names) result }
 {
-    match next_listed(code, construct, from) {
+    let number = construct;
+    match next_listed(Node { code, number }, from) {
         None => Look::Over,
         Some(found) => match found.listed.copying {
             Copying::Reduced(operator) => Look::Instead(Frame::Combines {

@@ -2,12 +2,12 @@
 
 ghost use Rattle.std.specs.Prelude.{◌≡◌, ◌<◌, ℕ, List, length, nat_abs};
 ghost use Rattle.c_syntax.specs.language.Tree.{Tree as Part};
-ghost use Rattle.c_syntax.specs.language.Numbered.{tree_at};
 ghost use Rattle.c_check.specs.SharedLoops.{IsBefore, loop_at};
 ghost use Rattle.c_model.specs.Loops as loops;
 ghost use Rattle.c_steps.specs.LoopNodes.{AreParts, GoesOn, parts_at};
+ghost use Rattle.c_steps.specs.NodeTrees.{tree_of};
 
-use crate::code::Code;
+use crate::node::Node;
 use c_check::SharedLoop;
 use c_syntax::BinaryOp;
 
@@ -30,13 +30,12 @@ pub(crate) struct LoopNodes {
 
 /// The parts of the loop that a construct shares out.
 #[tactic(auto, using(crate::proofs::Iterating::loop_goes_on), unfolding(crate::specs::Nodes::IsPart))]
-pub(crate) fn loop_nodes(code: &Code, construct: u32) -> LoopNodes
-    requires { construct < length code.now.trees }
-    ensures parts { parts_at code.now.trees result ≡ loops.loop_of (tree_at code.now.trees construct) }
-    ensures there { AreParts code.now.trees result }
+pub(crate) fn loop_nodes(construct: Node) -> LoopNodes
+    ensures parts { parts_at construct.entry.code.now.trees result ≡ loops.loop_of (tree_of construct.entry) }
+    ensures there { AreParts construct.entry.code.now.trees result }
     ensures goes_on { GoesOn result.comparison result.step }
 {
-    match code.program().shared_loop(construct) {
+    match construct.code.program().shared_loop(construct.number) {
         Some(found) => nodes_of(found),
         None => LoopNodes {
             variable: None,

@@ -1,10 +1,9 @@
 //! What an advance comes to.
 
 ghost use Rattle.std.specs.Prelude.{◌≡◌};
-ghost use Rattle.c_steps.specs.ControlView.{next_of, next_of_call};
-ghost use Rattle.c_steps.specs.Trying.{is_quiet};
+ghost use Rattle.c_steps.specs.ControlView.{next_of};
 
-use c_model::{Ask, Point};
+use c_model::{Ask, MutexKind, Point, Target};
 
 /// What a task's code comes to next.
 #[derive(Clone, Copy)]
@@ -23,40 +22,49 @@ pub enum Next {
     Limit(u8),
 }
 
-/// Why a call doesn't begin.
+/// Why a silent step of C's own statements isn't made.
 #[derive(Clone, Copy)]
 pub(crate) enum Refusal {
-    /// An argument traps with this number.
+    /// It traps with this number.
     Trap(u8),
-    /// The call would pass the limit with this number.
+    /// It would pass the limit with this number.
     Limit(u8),
+    /// It is no silent step: the `omp_test_lock` at this node begins with its event.
+    Test {
+        call: u32,
+        codeptr: u64,
+        wait_id: u32,
+        to: Target,
+    },
 }
 
-/// The same of a step that asks nothing and comes to no event: it was made, or it traps with this number.
-pub(crate) fn made(step: Result<(), u8>) -> Next
+/// What a silent step of C's own statements comes to.
+pub(crate) type Made = Result<(), Refusal>;
+
+/// What a step comes to that was made, or wasn't.
+pub(crate) fn made(step: Made) -> Next
     ensures { result ≡ next_of step }
 {
     match step {
         Ok(()) => Next::Quiet,
-        Err(trap) => Next::Trap(trap),
-    }
-}
-
-/// The same of a call that begins, or doesn't.
-pub(crate) fn begun_call(call: Result<(), Refusal>) -> Next
-    ensures { result ≡ next_of_call call }
-{
-    match call {
-        Ok(()) => Next::Quiet,
         Err(Refusal::Trap(trap)) => Next::Trap(trap),
         Err(Refusal::Limit(limit)) => Next::Limit(limit),
+        Err(
+            Refusal::Test {
+                call,
+                codeptr,
+                wait_id,
+                to,
+            },
+        ) => {
+            let kind = MutexKind::TestLock;
+            let point = Point::MutexAcquire {
+                codeptr,
+                wait_id,
+                kind,
+                to,
+            };
+            Next::Event(point, call)
+        }
     }
-}
-
-/// Whether a silent step was made.
-#[inline(always)]
-pub(crate) fn is_quiet(next: Next) -> bool
-    ensures { result ≡ is_quiet next }
-{
-    matches!(next, Next::Quiet)
 }

@@ -169,7 +169,7 @@ fn number_at(scope: &Scope<'_>, node: u32, place: u32) -> Option<i32>
 {
     match scope.tree.child(node, place) {
         None => None,
-        Some(child) => scope.node_value(child).ok(),
+        Some(child) => scope.value(Some(child)).ok(),
     }
 }
 

@@ -1,9 +1,7 @@
 //! What a history file holds.
 
-ghost use Rattle.std.specs.Prelude.{◌≡◌};
-
 use omp_model::History;
-use std::marker::Model;
+use ompt_calls::Sequence;
 
 /// The version of the format.
 pub const VERSION: u16 = 1;
@@ -26,26 +24,8 @@ pub(crate) const STEP_LIMIT: u32 = 30_000_000;
 /// The greatest length of a text, in bytes.
 pub(crate) const TEXT_LIMIT: u32 = 65_536;
 
-/// The text of a program. Contracts see it as its bytes.
-#[derive(Drop)]
-pub struct FileText(pub Vec<u8>);
-
-impl Model for FileText {
-    ghost use Rattle.std.specs.Prelude.{ℕ, List};
-
-    ghost Value = { List ℕ };
-
-    ghost view = { λ text. text.0.items };
-}
-
-impl FileText {
-    /// The bytes of the text.
-    pub fn bytes(&self) -> &[u8]
-        ensures { result.now ≡ self.now }
-    {
-        self.0.as_slice()
-    }
-}
+/// The bytes of a program's text.
+pub type FileText = Sequence<u8>;
 
 /// A run that somebody else can check.
 #[derive(Drop)]

@@ -16,9 +16,9 @@ use crate::file::{HistoryFile, THREAD_LIMIT};
 use crate::verdict::{HeardCall, HeardCalls, Verdict};
 use crate::waiting::{Waiting, waits};
 use c_check::Program;
-use omp_machine::{Machine, Memory, Went};
+use omp_machine::{Limits, Machine, Memory, Went};
 use omp_model::{Entry, What};
-use ompt_calls::{Call, Target};
+use ompt_calls::{Call, Sequence, Target};
 use std::alloc::Global;
 use std::mem;
 
@@ -42,7 +42,11 @@ impl Progress {
         ensures run { IfOk result (λ progress. progress.machine.run ≡ run_of_file program file.now) }
         ensures at { IfOk result (IsAt []) }
     {
-        let machine = Machine::new(alloc, program, file.mask, file.threads, file.steps)?;
+        let limits = Limits {
+            threads: file.threads,
+            steps: file.steps,
+        };
+        let machine = Machine::new(alloc, program, file.mask, limits)?;
         Ok(Progress {
             machine,
             waiting: [None; THREAD_LIMIT as usize],
@@ -195,7 +199,7 @@ impl Progress {
         requires few { length file.now.history ≤ ENTRY_LIMIT }
         ensures { IfOk result (IsVerdict self.old.machine.run file.now) }
     {
-        if self.take_all(file.history.entries())? {
+        if self.take_all(file.history.as_slice())? {
             Ok(self.verdict(alloc, file))
         } else {
             Ok(Verdict::Illegal(self.seq))
@@ -233,6 +237,6 @@ impl Progress {
     {
         let waiting = &self.waiting;
         self.calls.retain(|call| !waits(waiting, call));
-        HeardCalls(mem::replace(&mut self.calls, Vec::new(alloc)))
+        Sequence(mem::replace(&mut self.calls, Vec::new(alloc)))
     }
 }

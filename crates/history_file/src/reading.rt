@@ -11,12 +11,13 @@ ghost use Rattle.history_file.specs.Validity.{WritesHistory};
 use crate::ends::end_of_file;
 use crate::entries::{entry_of, kind_of};
 use crate::fields::{pass, text_at};
-use crate::file::{ENTRY_LIMIT, FileText, HISTORY_LIMIT, HistoryFile};
+use crate::file::{ENTRY_LIMIT, HISTORY_LIMIT, HistoryFile};
 use crate::header::{End, Header};
 use crate::headers::header_of;
 use crate::kind;
 use crate::reason::{HistoryFault, HistoryReason};
-use omp_model::{Entry, History};
+use omp_model::Entry;
+use ompt_calls::Sequence;
 use std::alloc::Global;
 
 /// Reads a history file: all of the bytes.
@@ -78,8 +79,8 @@ fn made_file(
         threads: header.threads,
         mask: header.mask,
         steps: header.steps,
-        text: FileText(text),
-        history: History(entries),
+        text: Sequence(text),
+        history: Sequence(entries),
         status: end.status,
         detail: end.detail,
     })

@@ -1,7 +1,6 @@
 //! What a rerun of a history comes to.
 
-use ompt_calls::Call;
-use std::marker::Model;
+use ompt_calls::{Call, Sequence};
 
 /// A call that was heard: its event is registered, and its callback returned.
 #[derive(Clone, Copy)]
@@ -14,18 +13,8 @@ pub struct HeardCall {
     pub call: Call,
 }
 
-/// The calls that were heard, in the order of their events. Contracts see them as their list.
-#[derive(Drop)]
-pub struct HeardCalls(pub Vec<HeardCall>);
-
-impl Model for HeardCalls {
-    ghost use Rattle.std.specs.Prelude.{List};
-    ghost use Rattle.history_file.specs.declared.verdict.HeardCall.{HeardCall};
-
-    ghost Value = { List HeardCall };
-
-    ghost view = { λ calls. calls.0.items };
-}
+/// The calls that were heard, in the order of their events.
+pub type HeardCalls = Sequence<HeardCall>;
 
 /// What a rerun of a history comes to.
 #[derive(Drop)]

@@ -33,7 +33,7 @@ pub fn write_history<O: Sink>(sink: &mut O, file: &HistoryFile) -> Result<(), Wr
 {
     let mut page = Page::new();
     write_header(sink, &mut page, file)?;
-    write_entries(sink, &mut page, file.history.entries())?;
+    write_entries(sink, &mut page, file.history.as_slice())?;
     write_end(sink, &mut page, file)
 }
 
@@ -55,7 +55,7 @@ fn write_header<O: Sink>(
 {
     put_head(page, file);
     write_page(sink, page)?;
-    write_all(sink, file.text.bytes())
+    write_all(sink, file.text.as_slice())
 }
 
 /// Puts what stands before the text on an empty page.
@@ -70,7 +70,7 @@ fn put_head(page: &mut Page, file: &HistoryFile)
     page.byte(file.threads);
     page.long(file.mask);
     page.short(file.steps);
-    page.short(file.text.bytes().len() as u32);
+    page.short(file.text.as_slice().len() as u32);
 }
 
 /// Writes the page, and leaves it empty.
@@ -203,5 +203,5 @@ fn put_end(page: &mut Page, file: &HistoryFile)
     page.byte(kind::END);
     page.byte(file.status);
     page.short(file.detail);
-    page.short(file.history.entries().len() as u32);
+    page.short(file.history.as_slice().len() as u32);
 }

@@ -12,7 +12,6 @@ use Rattle.c_model.specs.AfterEvents.{settled_after_event}
 use Rattle.c_model.specs.Step.{settled_moment}
 use Rattle.c_model.specs.Task.{Task as Code}
 use Rattle.task_pool.specs.Tasks.{MayBeParent}
-use Rattle.task_pool.specs.declared.task.Task.{Task as PoolTask}
 use Rattle.team_parts.specs.declared.meeting.Meeting.{Meeting}
 use Rattle.omp_model.specs.declared.event.Event.{Event}
 use Rattle.omp_model.specs.declared.event.Halt.{Halt}
@@ -27,6 +26,7 @@ use Rattle.omp_model.proofs.MadeEvents.{current-made}
 use Rattle.omp_board.specs.Board.{run_of}
 use Rattle.omp_board.specs.Answering.{IsSettled}
 use Rattle.omp_board.specs.Events.{HasComeTo, MayCreate}
+use Rattle.omp_board.proofs.Beside.{may-be-parent}
 use Rattle.omp_board.proofs.Creations.{creation_fits, creation_stands}
 
 -- an explicit task is made of what the code has come to, with room for its cells
@@ -42,11 +42,6 @@ may_create program W t (point.TaskCreate codeptr undeferred) node come =
     }
 may_create program W t other node come = tt
 
--- a task that was made may be a parent
-parent-of : (tasks : List PoolTask) (k : ℕ) → 1 ≤ k → k ≤ length tasks → MayBeParent tasks k
-parent-of [] k some few = absurd (omega arith)
-parent-of (first ∷ others) k some few = (some, few)
-
 -- a thread's current task and its code
 pub record SameCode (W V : World) (t : ℕ) : Type 0 where
   pub current : current V t ≡ current W t
@@ -57,7 +52,7 @@ module _ (W : World) (t : ℕ) (made : IsMadeWorld W) (some : 1 ≤ current W t)
   made-task = (current-made W t made some).made
 
   pub parent_made : MayBeParent W.pool.tasks (current W t)
-  parent_made = parent-of W.pool.tasks (current W t) some (omega (arith, made-task.below, made.pooled))
+  parent_made = may-be-parent W.pool.tasks (current W t) some (omega (arith, made-task.below, made.pooled))
 
   same : SameCode W W t
   same = record { current = refl; code = refl }

@@ -35,7 +35,7 @@ not-full (Ok task) none = refl
 not-full (Err full) none = absurd cc
 
 -- a task that was made may be a parent
-may-be-parent : (tasks : List PoolTask) (parent : ℕ) → 1 ≤ parent → parent ≤ length tasks → MayBeParent tasks parent
+pub may-be-parent : (tasks : List PoolTask) (parent : ℕ) → 1 ≤ parent → parent ≤ length tasks → MayBeParent tasks parent
 may-be-parent [] parent some within = absurd (omega arith)
 may-be-parent (first ∷ others) parent some within = (some, within)
 

@@ -1,15 +1,14 @@
 -- Where a step has come to the creation of an explicit task, the task can be made.
-use Rattle.std.proofs.Common.{◌≡◌, ℕ, Bool, slice_get, sym, ap, subst}
+use Rattle.std.proofs.Common.{◌≡◌, ℕ, Bool, slice_get, sym, subst}
 use Rattle.c_syntax.specs.language.Numbered.{TreeView, tree_at}
 use Rattle.c_model.specs.declared.point.Point.TheVariants.{TaskCreate}
 use Rattle.c_model.specs.declared.view.View.{View}
-use Rattle.c_model.specs.Begin.{explicit_task}
 use Rattle.c_model.specs.Step.{settled_moment, silent}
 use Rattle.c_model.specs.Task.{Moment}
 use Rattle.c_steps.specs.Beginning.{IsCreation}
 use Rattle.c_steps.specs.ControlView.{outcome_at}
 use Rattle.c_steps.specs.declared.next.Next.TheVariants as next
-use Rattle.omp_board.specs.Tasks.{HasCells, cells_around, created_by}
+use Rattle.omp_board.specs.Tasks.{HasCells, cells_around}
 use Rattle.c_steps.proofs.Creating.{IsCreating, creating_next}
 
 -- `old` is what the step began from, and `now` what it has left
@@ -25,7 +24,3 @@ module _ (program : TreeView) (view : View) (old now : Moment) (still : now ≡ 
 
     pub creation_fits : HasCells program now
     creation_fits = creating-now.room
-
-  -- the task of the definitions is the one that is made
-  pub creation_made : explicit_task program view old ≡ created_by program now
-  creation_made = sym (ap (created_by program) still)

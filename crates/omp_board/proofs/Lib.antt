@@ -11,7 +11,6 @@ pub mod Replies
 pub mod Reserving
 pub mod Seeing
 pub mod Seen
-pub mod Settling
 pub mod Silence
 pub mod Summoning
 pub mod Tested

@@ -1,17 +1,13 @@
 -- Where a region that was forked stands next, and where none does.
-use Rattle.std.proofs.Common.{◌≡◌, ℕ, ℤ, if◌then◌else◌, Bool, true, false, List, [], ◌∷◌, refl, sym, ap, ◌∙◌}
-use Rattle.c_syntax.specs.language.Numbered.{TreeView}
-use Rattle.c_model.specs.declared.point.Point.TheVariants.{ParallelBegin}
+use Rattle.std.proofs.Common.{◌≡◌, ℕ, if◌then◌else◌, Bool, true, false, List, [], ◌∷◌, refl, sym, ap, ◌∙◌}
 use Rattle.c_model.specs.declared.upcoming.Upcoming.TheVariants as upcoming
 use Rattle.c_model.specs.declared.view.View.{View}
 use Rattle.c_model.specs.Begin.{blank_task, member_task}
-use Rattle.c_model.specs.AfterEvents.{passed_at, settled_after_event}
 use Rattle.c_model.specs.Step.{is_event}
 use Rattle.c_model.specs.Task.{Item, Task}
 use Rattle.c_model.specs.Task.Item.{Forked, Sync, Acquire, TestLock}
 use Rattle.c_model.specs.Upcoming.{upcoming_among, upcoming_of}
 use Rattle.c_steps.specs.Beginning.{HasForked}
-use Rattle.c_steps.specs.Passing.{IsEventOfNext}
 use Rattle.c_steps.proofs.Giving.{same_task}
 use Rattle.omp_model.specs.EventEffects.{has_forked, member_code}
 
@@ -55,12 +51,3 @@ member_coded task is = sym (ap (λ forked. if forked then member_task task else 
 
 pub member_blank : (task : Task) → has_forked task.todo ≡ false → blank_task ≡ member_code task
 member_blank task is = sym (ap (λ forked. if forked then member_task task else blank_task) is)
-
--- behind the event with which a region begins it stands next
-forked-behind : (program : TreeView) (codeptr : ℕ) (requested : ℤ) (node : ℕ) (executes : Bool) (items : List Item) (task : Task) → IsEventOfNext program (ParallelBegin codeptr requested) node items → has_forked (passed_at items (ParallelBegin codeptr requested) executes task).todo ≡ true
-unfolding IsEventOfNext
-forked-behind program codeptr requested node executes [] task is = absurd is
-forked-behind program codeptr requested node executes (item ∷ items) task is = refl
-
-pub forked_behind : (program : TreeView) (codeptr : ℕ) (requested : ℤ) (node : ℕ) (executes : Bool) (task : Task) → IsEventOfNext program (ParallelBegin codeptr requested) node task.todo → has_forked (settled_after_event (ParallelBegin codeptr requested) executes task).todo ≡ true
-forked_behind program codeptr requested node executes task is = forked-behind program codeptr requested node executes task.todo task is

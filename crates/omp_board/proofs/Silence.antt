@@ -31,9 +31,10 @@ use Rattle.omp_model.specs.Members.{code_of, current, current_region, member_ind
 use Rattle.omp_model.specs.Changes.{with_masked_skipped, gone_to, with_taken_share, with_team}
 use Rattle.omp_model.specs.Silent.{answer_to, answered, answered_by, chunk_dealt, fits_loop, fitting_chunk, fitting_section, items_asking, section_dealt, share_taken, silence_of, silent_step, team_after}
 use Rattle.omp_model.proofs.Coming.{steps-silent}
-use Rattle.omp_model.proofs.GonePast.{answered-past, code-past, gone_to-past, settled-once}
+use Rattle.omp_model.proofs.GonePast.{answered-past, code-past, gone_to-past}
 use Rattle.omp_model.proofs.Later.{at-set}
 use Rattle.omp_board.specs.Board.{BoardRoom, BoardView, HasTurn, run_of}
+use Rattle.omp_board.proofs.ToldFree.{past_settled}
 use Rattle.omp_board.proofs.Replies.{chunk_replies, lock_replies, section_replies}
 
 -- What fits, fits.
@@ -137,11 +138,8 @@ module _ (program : TreeView) (W : World) (t : ℕ) (view : View) (sees : view �
   no_event steps other = no-event program found now (subst (λ (outcome : Outcome). Fits outcome false) (sym comes-to) (steps-silent W t program steps)) other
 
 module _ (W : World) (t : ℕ) where
-  pub past_settled : settled_task (view_of (with_masked_skipped W t) t) (code_of (with_masked_skipped W t) t) ≡ code_of (with_masked_skipped W t) t
-  past_settled = ap (settled_task (view_of W t)) (code-past W t) ∙ settled-once (view_of W t) (code_of W t) ∙ sym (code-past W t)
-
   items-past : items_asking (with_masked_skipped W t) t ≡ items_asking W t
-  items-past = ap (λ (code : Code). code.todo) (past_settled ∙ code-past W t)
+  items-past = ap (λ (code : Code). code.todo) (past_settled W t ∙ code-past W t)
 
   answer-past : (what : Ask) → answer_to (with_masked_skipped W t) t what ≡ answer_to W t what
   answer-past ask.Chunk = ap (λ (items : List Item). answer.Chunk (fitting_chunk (count_asked items) (chunk_dealt W t))) items-past

@@ -1,9 +1,8 @@
 //! The board of a run: what its turns change.
 
 ghost use Rattle.std.specs.Prelude.{◌≡◌, ◌≤◌, ◌-◌, ◌∷◌, IfOk, OnOk, length, replicate, reverse};
-ghost use Rattle.c_model.specs.Upcoming.{upcoming_among};
 ghost use Rattle.omp_model.specs.declared.limits.TheConstants.{STACK_LIMIT};
-ghost use Rattle.omp_model.specs.State.{first_world, initial_thread, region_at, task_at, thread_at, unmade};
+ghost use Rattle.omp_model.specs.State.{first_world, initial_thread, thread_at, unmade};
 ghost use Rattle.omp_model.specs.Snapshots.{lowest_of};
 ghost use Rattle.omp_model.specs.Members.{current, current_index, current_region, is_outermost, member_index, region_of, view_of};
 ghost use Rattle.omp_board.specs.Board.{HasEvent, run_in};
@@ -13,9 +12,7 @@ ghost use Rattle.c_steps.specs.Scopes.{HasNumbers};
 mod arrival;
 mod coming;
 mod effects;
-mod locks;
 mod meeting;
-mod regions;
 mod returning;
 mod silent;
 mod tasks;
@@ -26,7 +23,7 @@ use crate::regions::Regions;
 use crate::tasks::Tasks;
 use crate::thread::Thread;
 use c_check::Program;
-use c_model::{Upcoming, View};
+use c_model::View;
 pub use meeting::sync_number;
 use omp_model::{IMPLICIT_REGION, ThreadStage};
 use std::alloc::{AllocError, Global};
@@ -41,11 +38,11 @@ pub struct Board {
     /// The threads, by number.
     threads: Vec<Thread>,
     /// The tasks with their code, and what all code shares.
-    tasks: Tasks,
+    pub(crate) tasks: Tasks,
     /// The tasks' parents, regions and conditions, and the ready order.
-    pool: Pool,
+    pub(crate) pool: Pool,
     /// The regions with their teams.
-    regions: Regions,
+    pub(crate) regions: Regions,
     /// The locks and criticals that are initialised.
     locks: Locks,
 }
@@ -144,7 +141,7 @@ impl Board {
     pub fn is_outermost(&self, region: u32) -> bool
         ensures { result ≡ is_outermost self.now.world region }
     {
-        self.region_of(self.regions.task(region)) == IMPLICIT_REGION
+        self.region_of(self.regions.head(region).task) == IMPLICIT_REGION
     }
 
     /// The number of the thread in the region's team.
@@ -171,7 +168,7 @@ impl Board {
         ensures few { length result.now ≤ STACK_LIMIT }
     {
         match self.threads.get(thread as usize) {
-            Some(thread) => thread.stack(),
+            Some(thread) => &thread.stack,
             None => &[],
         }
     }
@@ -180,38 +177,10 @@ impl Board {
     pub fn lowest(&self, thread: u8) -> u32
         ensures { result ≡ lowest_of (thread_at self.now.world thread).stack }
     {
-        match self.threads.get(thread as usize) {
-            Some(thread) => thread.lowest(),
+        match self.stack(thread).first() {
+            Some(task) => *task,
             None => 0,
         }
-    }
-
-    /// The encountering task of the region, or 0.
-    pub fn encountering(&self, region: u32) -> u32
-        ensures { result ≡ (region_at self.now.world region).head.task }
-    {
-        self.regions.task(region)
-    }
-
-    /// How many members the region's team has.
-    pub fn size(&self, region: u32) -> u8
-        ensures { result ≡ (region_at self.now.world region).head.size }
-    {
-        self.regions.size(region)
-    }
-
-    /// The region that the task has forked and that isn't over, or 0.
-    pub fn forked(&self, task: u32) -> u32
-        ensures { result ≡ (task_at self.now.world task).forked }
-    {
-        self.tasks.forked(task)
-    }
-
-    /// What stands first in the task's code.
-    pub fn standing(&self, task: u32) -> Upcoming
-        ensures { result ≡ upcoming_among (task_at self.now.world task).code.todo }
-    {
-        self.tasks.standing(task)
     }
 
     /// What the code of the thread's current task sees.
@@ -223,7 +192,7 @@ impl Board {
         let (region, member) = self.place_in_team(thread);
         View {
             index: u32::from(member),
-            team: u32::from(self.regions.size(region)),
+            team: u32::from(self.regions.head(region).size),
             max: u32::from(self.threads()),
         }
     }

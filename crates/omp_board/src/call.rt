@@ -1,22 +1,19 @@
-//! The call of an event. It is a table: a function an event, but for the end of a thread, with the arguments of its call.
+//! The call of an event. It is a table: an arm an event, with the arguments of its call.
 
 ghost use Rattle.std.specs.Prelude.{◌≡◌};
-ghost use Rattle.c_model.specs.declared.point.MutexKind.TheVariants as mutex;
-ghost use Rattle.ompt_calls.specs.declared.call.Call.TheVariants as call;
-ghost use Rattle.omp_model.specs.declared.event.Event.TheVariants as event;
 ghost use Rattle.omp_model.specs.Calls as calls;
 
 use crate::board::{Board, sync_number};
 use crate::call_parts::{
-    endpoint_number, mutex_number, null_word, own_region_word, own_task_word, synced_region,
+    NULL_WORD, endpoint_number, mutex_number, own_region_word, own_task_word, synced_region,
     thread_kind, work_number,
 };
 use crate::frames::current_frame;
 use crate::levels::task_flags;
-use c_model::{MutexKind, SyncKind, SyncStage, WorkKind};
+use c_model::{SyncKind, SyncStage};
 use omp_codes::task_flags::{IMPLICIT, INITIAL};
-use omp_codes::{callbacks, dispatch_kinds, endpoints, parallel_flags, task_statuses};
-use omp_model::{Endpoint, Event, IMPLICIT_REGION, INITIAL_TASK, Share};
+use omp_codes::{callbacks, dispatch_kinds, endpoints, mutex_kinds, parallel_flags, task_statuses};
+use omp_model::{Event, IMPLICIT_REGION, INITIAL_TASK, Share};
 use ompt_calls::Call;
 
 /// The callback of the event that has just occurred on the thread, with its arguments (OpenMP 5.2, 19.5.2).
@@ -25,35 +22,101 @@ pub fn call_of(board: &Board, thread: u8, event: Event) -> Call
     ensures { result ≡ calls.call_of board.now.world thread event }
 {
     match event {
-        Event::ThreadBegin => thread_begin(board, thread),
+        Event::ThreadBegin => Call::ThreadBegin {
+            kind: thread_kind(thread),
+            thread: board.thread_word(thread),
+        },
         Event::ThreadEnd => Call::ThreadEnd {
             thread: board.thread_word(thread),
         },
-        Event::InitialTaskBegin => initial_begin(board),
-        Event::InitialTaskEnd => initial_end(board),
+        Event::InitialTaskBegin => Call::ImplicitTask {
+            endpoint: endpoints::BEGIN,
+            region: board.region_word(IMPLICIT_REGION),
+            task: board.task_word(INITIAL_TASK),
+            actual: 1,
+            index: 1,
+            flags: INITIAL,
+        },
+        Event::InitialTaskEnd => Call::ImplicitTask {
+            endpoint: endpoints::END,
+            region: NULL_WORD,
+            task: board.task_word(INITIAL_TASK),
+            actual: 0,
+            index: 1,
+            flags: INITIAL,
+        },
         Event::ParallelBegin {
             region,
             requested,
             codeptr,
-        } => region_begin(board, thread, region, requested, codeptr),
-        Event::ParallelEnd { region, codeptr } => region_end(board, thread, region, codeptr),
-        Event::MemberBegin { region, task } => member_begin(board, thread, region, task),
-        Event::MemberEnd { region, task } => member_end(board, thread, region, task),
-        Event::TaskCreate {
-            task,
-            undeferred,
+        } => Call::ParallelBegin {
+            task: own_task_word(board, thread),
+            frame: current_frame(board, thread, event),
+            region: board.region_word(region),
+            requested,
+            flags: parallel_flags::TEAM_OF_PROGRAM,
             codeptr,
-        } => task_create(board, thread, task, undeferred, codeptr),
-        Event::TaskBegin { prior, task } => task_begin(board, prior, task),
-        Event::TaskEnd { task } => task_end(board, thread, task),
+        },
+        Event::ParallelEnd { region, codeptr } => Call::ParallelEnd {
+            region: board.region_word(region),
+            task: own_task_word(board, thread),
+            flags: parallel_flags::TEAM_OF_PROGRAM,
+            codeptr,
+        },
+        Event::MemberBegin { region, task } => Call::ImplicitTask {
+            endpoint: endpoints::BEGIN,
+            region: board.region_word(region),
+            task: board.task_word(task),
+            actual: u32::from(board.regions.head(region).size),
+            index: u32::from(board.member_index(thread, region)),
+            flags: IMPLICIT,
+        },
+        Event::MemberEnd { region, task } => Call::ImplicitTask {
+            endpoint: endpoints::END,
+            region: NULL_WORD,
+            task: board.task_word(task),
+            actual: 0,
+            index: u32::from(board.member_index(thread, region)),
+            flags: IMPLICIT,
+        },
+        Event::TaskCreate { task, codeptr, .. } => Call::TaskCreate {
+            task: own_task_word(board, thread),
+            frame: current_frame(board, thread, event),
+            fresh: board.task_word(task),
+            flags: task_flags(board.pool.task(task).kind),
+            has_dependences: 0,
+            codeptr,
+        },
+        Event::TaskBegin { prior, task } => Call::TaskSchedule {
+            prior: board.task_word(prior),
+            status: task_statuses::SWITCH,
+            next: board.task_word(task),
+        },
+        Event::TaskEnd { task } => Call::TaskSchedule {
+            prior: board.task_word(task),
+            status: task_statuses::COMPLETE,
+            next: own_task_word(board, thread),
+        },
         Event::Work {
             endpoint,
             kind,
             count,
             codeptr,
-        } => work_call(board, thread, endpoint, kind, count, codeptr),
+        } => Call::Work {
+            kind: work_number(kind),
+            endpoint: endpoint_number(endpoint),
+            region: own_region_word(board, thread),
+            task: own_task_word(board, thread),
+            count,
+            codeptr,
+        },
         Event::Dispatch(share) => dispatch_call(board, thread, share),
-        Event::Masked { endpoint, codeptr } => masked_call(board, thread, endpoint, codeptr),
+        Event::Masked { endpoint, codeptr } => Call::Masked {
+            endpoint: endpoint_number(endpoint),
+            region: own_region_word(board, thread),
+            task: own_task_word(board, thread),
+            codeptr,
+        },
         Event::Sync {
             kind,
             stage,
@@ -63,261 +126,43 @@ pub fn call_of(board: &Board, thread: u8, event: Event) -> Call
             kind,
             wait_id,
             codeptr,
-        } => mutex_acquire(kind, wait_id, codeptr),
+        } => Call::MutexAcquire {
+            kind: mutex_number(kind),
+            hint: 0,
+            variant: 0,
+            wait_id,
+            codeptr,
+        },
         Event::MutexAcquired {
             kind,
             wait_id,
             codeptr,
-        } => mutex_acquired(kind, wait_id, codeptr),
+        } => Call::MutexAcquired {
+            kind: mutex_number(kind),
+            wait_id,
+            codeptr,
+        },
         Event::MutexReleased {
             kind,
             wait_id,
             codeptr,
-        } => mutex_released(kind, wait_id, codeptr),
-        Event::LockInit { wait_id, codeptr } => lock_init(wait_id, codeptr),
-        Event::LockDestroy { wait_id, codeptr } => lock_destroy(wait_id, codeptr),
-    }
-}
-
-/// The thread begins.
-#[tactic(auto, unfolding(omp_model::specs::Calls::call_of))]
-fn thread_begin(board: &Board, thread: u8) -> Call
-    ensures { result ≡ calls.call_of board.now.world thread event.ThreadBegin }
-{
-    Call::ThreadBegin {
-        kind: thread_kind(thread),
-        thread: board.thread_word(thread),
-    }
-}
-
-/// The initial task begins.
-#[tactic(auto, unfolding(omp_model::specs::Calls::call_of))]
-fn initial_begin(board: &Board) -> Call
-    ensures { result ≡ calls.call_of board.now.world 0 event.InitialTaskBegin }
-{
-    Call::ImplicitTask {
-        endpoint: endpoints::BEGIN,
-        region: board.region_word(IMPLICIT_REGION),
-        task: board.task_word(INITIAL_TASK),
-        actual: 1,
-        index: 1,
-        flags: INITIAL,
-    }
-}
-
-/// The initial task ends.
-#[tactic(auto, unfolding(omp_model::specs::Calls::call_of))]
-fn initial_end(board: &Board) -> Call
-    ensures { result ≡ calls.call_of board.now.world 0 event.InitialTaskEnd }
-{
-    Call::ImplicitTask {
-        endpoint: endpoints::END,
-        region: null_word(),
-        task: board.task_word(INITIAL_TASK),
-        actual: 0,
-        index: 1,
-        flags: INITIAL,
-    }
-}
-
-/// A parallel region is made.
-#[tactic(auto, unfolding(omp_model::specs::Calls::call_of))]
-fn region_begin(board: &Board, thread: u8, region: u32, requested: u32, codeptr: u64) -> Call
-    ensures { result ≡ calls.call_of board.now.world thread (event.ParallelBegin region requested codeptr) }
-{
-    let event = Event::ParallelBegin {
-        region,
-        requested,
-        codeptr,
-    };
-    Call::ParallelBegin {
-        task: own_task_word(board, thread),
-        frame: current_frame(board, thread, event),
-        region: board.region_word(region),
-        requested,
-        flags: parallel_flags::TEAM_OF_PROGRAM,
-        codeptr,
-    }
-}
-
-/// A parallel region is over.
-#[tactic(auto, unfolding(omp_model::specs::Calls::call_of))]
-fn region_end(board: &Board, thread: u8, region: u32, codeptr: u64) -> Call
-    ensures { result ≡ calls.call_of board.now.world thread (event.ParallelEnd region codeptr) }
-{
-    Call::ParallelEnd {
-        region: board.region_word(region),
-        task: own_task_word(board, thread),
-        flags: parallel_flags::TEAM_OF_PROGRAM,
-        codeptr,
-    }
-}
-
-/// A member's implicit task begins.
-#[tactic(auto, unfolding(omp_model::specs::Calls::call_of))]
-fn member_begin(board: &Board, thread: u8, region: u32, task: u32) -> Call
-    ensures { result ≡ calls.call_of board.now.world thread (event.MemberBegin region task) }
-{
-    Call::ImplicitTask {
-        endpoint: endpoints::BEGIN,
-        region: board.region_word(region),
-        task: board.task_word(task),
-        actual: u32::from(board.size(region)),
-        index: u32::from(board.member_index(thread, region)),
-        flags: IMPLICIT,
-    }
-}
-
-/// A member's implicit task ends.
-#[tactic(auto, unfolding(omp_model::specs::Calls::call_of))]
-fn member_end(board: &Board, thread: u8, region: u32, task: u32) -> Call
-    ensures { result ≡ calls.call_of board.now.world thread (event.MemberEnd region task) }
-{
-    Call::ImplicitTask {
-        endpoint: endpoints::END,
-        region: null_word(),
-        task: board.task_word(task),
-        actual: 0,
-        index: u32::from(board.member_index(thread, region)),
-        flags: IMPLICIT,
-    }
-}
-
-/// An explicit task is made.
-#[tactic(auto, unfolding(omp_model::specs::Calls::call_of))]
-fn task_create(board: &Board, thread: u8, task: u32, undeferred: bool, codeptr: u64) -> Call
-    ensures { result ≡ calls.call_of board.now.world thread (event.TaskCreate task undeferred codeptr) }
-{
-    let event = Event::TaskCreate {
-        task,
-        undeferred,
-        codeptr,
-    };
-    Call::TaskCreate {
-        task: own_task_word(board, thread),
-        frame: current_frame(board, thread, event),
-        fresh: board.task_word(task),
-        flags: task_flags(board.kind(task)),
-        has_dependences: 0,
-        codeptr,
-    }
-}
-
-/// The thread goes from a task to an explicit one.
-#[tactic(auto, unfolding(omp_model::specs::Calls::call_of))]
-fn task_begin(board: &Board, prior: u32, task: u32) -> Call
-    ensures { result ≡ calls.call_of board.now.world 0 (event.TaskBegin prior task) }
-{
-    Call::TaskSchedule {
-        prior: board.task_word(prior),
-        status: task_statuses::SWITCH,
-        next: board.task_word(task),
-    }
-}
-
-/// An explicit task ends.
-#[tactic(auto, unfolding(omp_model::specs::Calls::call_of))]
-fn task_end(board: &Board, thread: u8, task: u32) -> Call
-    ensures { result ≡ calls.call_of board.now.world thread (event.TaskEnd task) }
-{
-    Call::TaskSchedule {
-        prior: board.task_word(task),
-        status: task_statuses::COMPLETE,
-        next: own_task_word(board, thread),
-    }
-}
-
-/// The thread's part of a worksharing construct begins or ends.
-#[tactic(auto, unfolding(omp_model::specs::Calls::call_of))]
-fn work_call(
-    board: &Board,
-    thread: u8,
-    endpoint: Endpoint,
-    kind: WorkKind,
-    count: u64,
-    codeptr: u64,
-) -> Call
-    ensures { result ≡ calls.call_of board.now.world thread (event.Work endpoint kind count codeptr) }
-{
-    Call::Work {
-        kind: work_number(kind),
-        endpoint: endpoint_number(endpoint),
-        region: own_region_word(board, thread),
-        task: own_task_word(board, thread),
-        count,
-        codeptr,
-    }
-}
-
-/// The statement of a `masked` begins or ends.
-#[tactic(auto, unfolding(omp_model::specs::Calls::call_of))]
-fn masked_call(board: &Board, thread: u8, endpoint: Endpoint, codeptr: u64) -> Call
-    ensures { result ≡ calls.call_of board.now.world thread (event.Masked endpoint codeptr) }
-{
-    Call::Masked {
-        endpoint: endpoint_number(endpoint),
-        region: own_region_word(board, thread),
-        task: own_task_word(board, thread),
-        codeptr,
-    }
-}
-
-/// A lock or critical is asked for.
-fn mutex_acquire(kind: MutexKind, wait_id: u32, codeptr: u64) -> Call
-    ensures { result ≡ call.MutexAcquire (calls.mutex_number kind) 0 0 wait_id codeptr }
-{
-    Call::MutexAcquire {
-        kind: mutex_number(kind),
-        hint: 0,
-        variant: 0,
-        wait_id,
-        codeptr,
-    }
-}
-
-/// It comes to be owned.
-fn mutex_acquired(kind: MutexKind, wait_id: u32, codeptr: u64) -> Call
-    ensures { result ≡ call.MutexAcquired (calls.mutex_number kind) wait_id codeptr }
-{
-    Call::MutexAcquired {
-        kind: mutex_number(kind),
-        wait_id,
-        codeptr,
-    }
-}
-
-/// It is given back.
-fn mutex_released(kind: MutexKind, wait_id: u32, codeptr: u64) -> Call
-    ensures { result ≡ call.MutexReleased (calls.mutex_number kind) wait_id codeptr }
-{
-    Call::MutexReleased {
-        kind: mutex_number(kind),
-        wait_id,
-        codeptr,
-    }
-}
-
-/// A lock is initialised.
-fn lock_init(wait_id: u32, codeptr: u64) -> Call
-    ensures { result ≡ call.LockInit (calls.mutex_number mutex.Lock) 0 0 wait_id codeptr }
-{
-    Call::LockInit {
-        kind: mutex_number(MutexKind::Lock),
-        hint: 0,
-        variant: 0,
-        wait_id,
-        codeptr,
-    }
-}
-
-/// A lock is destroyed.
-fn lock_destroy(wait_id: u32, codeptr: u64) -> Call
-    ensures { result ≡ call.LockDestroy (calls.mutex_number mutex.Lock) wait_id codeptr }
-{
-    Call::LockDestroy {
-        kind: mutex_number(MutexKind::Lock),
-        wait_id,
-        codeptr,
+        } => Call::MutexReleased {
+            kind: mutex_number(kind),
+            wait_id,
+            codeptr,
+        },
+        Event::LockInit { wait_id, codeptr } => Call::LockInit {
+            kind: mutex_kinds::LOCK,
+            hint: 0,
+            variant: 0,
+            wait_id,
+            codeptr,
+        },
+        Event::LockDestroy { wait_id, codeptr } => Call::LockDestroy {
+            kind: mutex_kinds::LOCK,
+            wait_id,
+            codeptr,
+        },
     }
 }
 

@@ -2,7 +2,6 @@
 
 ghost use Rattle.std.specs.Prelude.{◌≡◌};
 ghost use Rattle.omp_model.specs.Calls as calls;
-ghost use Rattle.omp_model.specs.Words as words;
 
 use crate::board::Board;
 use c_model::{MutexKind, SyncKind, SyncStage, WorkKind};
@@ -69,21 +68,17 @@ pub(crate) fn own_task_word(board: &Board, thread: u8) -> Word
 }
 
 /// The word of no region and no task.
-pub(crate) fn null_word() -> Word
-    ensures { result ≡ words.null_word }
-{
-    Word {
-        identity: 0,
-        value: 0,
-    }
-}
+pub(crate) const NULL_WORD: Word = Word {
+    identity: 0,
+    value: 0,
+};
 
 /// The region that is told at an event of a barrier or taskwait. Where the wait at a region's own barrier ends, and from then on, it is NULL.
 pub(crate) fn synced_region(board: &Board, thread: u8, kind: SyncKind, stage: SyncStage) -> Word
     ensures { result ≡ calls.synced_region board.now.world thread kind stage }
 {
     match (kind, stage) {
-        (SyncKind::Parallel, SyncStage::WaitEnd | SyncStage::RegionEnd) => null_word(),
+        (SyncKind::Parallel, SyncStage::WaitEnd | SyncStage::RegionEnd) => NULL_WORD,
         _ => own_region_word(board, thread),
     }
 }

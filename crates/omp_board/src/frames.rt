@@ -1,6 +1,6 @@
 //! The frames of tasks, right after the Go of an event.
 
-ghost use Rattle.std.specs.Prelude.{◌≡◌, ◌<◌, ◌≤◌, ◌+◌, ◌*◌};
+ghost use Rattle.std.specs.Prelude.{◌≡◌, ◌≤◌, ◌+◌, ◌*◌};
 ghost use Rattle.omp_model.specs.Frames as frames;
 
 use crate::board::Board;
@@ -32,7 +32,7 @@ fn is_inside(board: &Board, thread: u8, event: Event, owner: u8, task: u32, belo
     ensures { result ≡ frames.is_inside board.now.world thread event owner task below }
 {
     below + 1 != board.depth(owner)
-        || board.forked(task) != 0
+        || board.tasks.forked(task) != 0
         || (owner == thread && !starts_task(event))
 }
 
@@ -59,7 +59,7 @@ pub fn frame_of(
     requires { below ≤ STACK_LIMIT }
     ensures { result ≡ frames.frame_of board.now.world thread event owner task below }
 {
-    let is_under_way = matches!(board.condition(task), Condition::Started);
+    let is_under_way = matches!(board.pool.task(task).condition, Condition::Started);
     let exit = if is_under_way && task != INITIAL_TASK {
         frame_base(owner, below)
     } else {

@@ -7,6 +7,16 @@ ghost use Rattle.omp_model.specs.State.{fresh_head};
 use omp_model::RegionHead;
 use team_parts::TEAM_LIMIT;
 
+/// What stands for a region where there is none.
+pub const NO_HEAD: RegionHead = RegionHead {
+    task: 0,
+    size: 0,
+    word: 0,
+    members: [0; TEAM_LIMIT],
+    left: [false; TEAM_LIMIT],
+    ended: false,
+};
+
 /// A region of a task, which so many members are to join.
 pub fn fresh_head(task: u32, size: u8) -> RegionHead
     ensures { result ≡ fresh_head task size }
@@ -14,10 +24,7 @@ pub fn fresh_head(task: u32, size: u8) -> RegionHead
     RegionHead {
         task,
         size,
-        word: 0,
-        members: [0; TEAM_LIMIT],
-        left: [false; TEAM_LIMIT],
-        ended: false,
+        ..NO_HEAD
     }
 }
 

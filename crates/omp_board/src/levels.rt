@@ -2,14 +2,13 @@
 
 ghost use Rattle.std.specs.Prelude.{◌≡◌, ◌≤◌, ◌<◌, ◌+◌, ◌++◌, length, reverse, vec_capacity, vec_len};
 ghost use Rattle.omp_model.specs.Snapshots as snapshots;
-ghost use Rattle.omp_model.specs.State.{thread_at};
-ghost use Rattle.omp_board.specs.Levels.{region_level, unless_again};
+ghost use Rattle.omp_board.specs.Levels.{GoesOn, unless_again};
 
 use crate::board::Board;
 use crate::frames::frame_of;
 use omp_codes::task_flags::{EXPLICIT, EXPLICIT_UNDEFERRED, IMPLICIT, INITIAL};
 use omp_model::{Event, INITIAL_TASK, STACK_LIMIT};
-use ompt_calls::{RegionLevel, RegionLevels, TaskLevel, TaskLevels, Word};
+use ompt_calls::{RegionLevel, RegionLevels, Sequence, TaskLevel, TaskLevels, Word};
 use std::alloc::{AllocError, Global};
 use std::marker::Model;
 use task_pool::TaskKind;
@@ -49,8 +48,8 @@ impl Levels {
 
     /// The room of a snapshot's levels for those of the next one, where it is room for as many.
     pub fn again(tasks: TaskLevels, regions: RegionLevels) -> Option<Levels> {
-        let TaskLevels(mut tasks) = tasks;
-        let RegionLevels(mut regions) = regions;
+        let Sequence(mut tasks) = tasks;
+        let Sequence(mut regions) = regions;
         tasks.clear();
         regions.clear();
         if tasks.capacity() >= LEVEL_LIMIT && regions.capacity() >= LEVEL_LIMIT {
@@ -66,13 +65,56 @@ impl Levels {
         ensures regions { result.1 ≡ snapshots.region_levels board.now.world
             (snapshots.task_levels board.now.world thread event) }
     {
-        let Levels {
-            mut tasks,
-            mut regions,
-        } = self;
-        push_tasks(&mut tasks, board, thread, event);
-        push_regions(&mut regions, board, &tasks);
-        (TaskLevels(tasks), RegionLevels(regions))
+        let Levels { tasks, regions } = self;
+        let mut filling = Filling {
+            tasks,
+            regions,
+            last: 0,
+        };
+        filling.push_stack(board, thread, event, thread, board.stack(thread));
+        let outer = outer_tasks(board, board.lowest(thread));
+        filling.push_stack(board, thread, event, 0, outer);
+        let Filling { tasks, regions, .. } = filling;
+        (Sequence(tasks), Sequence(regions))
+    }
+}
+
+/// The levels of a snapshot so far. Those of regions follow those of tasks.
+#[derive(Drop)]
+struct Filling {
+    /// The tasks.
+    tasks: Vec<TaskLevel>,
+    /// The regions, each once where it repeats directly.
+    regions: Vec<RegionLevel>,
+    /// The region of the last level, or 0.
+    last: u32,
+}
+
+impl Filling {
+    /// Adds the levels of these tasks of the owner, which are the lowest of its stack, from top to bottom, and those of their regions.
+    #[inline(always)]
+    fn push_stack(&mut self, board: &Board, thread: u8, event: Event, owner: u8, stack: &[u32])
+        requires limit { length stack.now ≤ STACK_LIMIT }
+        requires tasks { vec_len self.old.tasks + length stack.now ≤ vec_capacity self.old.tasks }
+        requires regions { vec_len self.old.regions + length stack.now ≤ vec_capacity self.old.regions }
+        ensures items { self.new.tasks.items ≡ self.old.tasks.items ++
+            snapshots.levels_from board.now.world thread event owner (reverse stack.now) }
+        ensures regions { GoesOn board.now.world self.old.regions.items self.old.last
+            (snapshots.levels_from board.now.world thread event owner (reverse stack.now))
+            self.new.regions.items self.new.last }
+        ensures len { vec_len self.new.tasks ≡ vec_len self.old.tasks + length stack.now }
+        ensures few { vec_len self.new.regions ≤ vec_len self.old.regions + length stack.now }
+        ensures capacity { vec_capacity self.old.tasks ≤ vec_capacity self.new.tasks }
+        ensures enough { vec_capacity self.old.regions ≤ vec_capacity self.new.regions }
+    {
+        let mut below = stack.len();
+        while below > 0 {
+            below -= 1;
+            let level = task_level(board, thread, event, owner, stack[below], below);
+            push_region(&mut self.regions, board, self.last, level.region);
+            self.last = level.region.identity;
+            self.tasks.push(level).unwrap();
+        }
     }
 }
 
@@ -101,39 +143,13 @@ fn task_level(
     requires { below ≤ STACK_LIMIT }
     ensures { result ≡ snapshots.task_level board.now.world thread event owner task below }
 {
-    let region = board.region_of(task);
+    let pooled = board.pool.task(task);
     TaskLevel {
-        flags: task_flags(board.kind(task)),
+        flags: task_flags(pooled.kind),
         word: board.task_word(task),
         frame: frame_of(board, thread, event, owner, task, below),
-        region: board.region_word(region),
-        index: u32::from(board.member_index(owner, region)),
-    }
-}
-
-/// Adds the levels of these tasks of the owner, which are the lowest of its stack, from top to bottom.
-#[inline(always)]
-fn push_stack(
-    levels: &mut Vec<TaskLevel>,
-    board: &Board,
-    thread: u8,
-    event: Event,
-    owner: u8,
-    stack: &[u32],
-)
-    requires limit { length stack.now ≤ STACK_LIMIT }
-    requires room { vec_len levels.old + length stack.now ≤ vec_capacity levels.old }
-    ensures items { levels.new.items ≡ levels.old.items ++ snapshots.levels_from board.now.world thread event owner
-        (reverse stack.now) }
-    ensures len { vec_len levels.new ≡ vec_len levels.old + length stack.now }
-    ensures capacity { vec_capacity levels.old ≤ vec_capacity levels.new }
-{
-    let mut below = stack.len();
-    while below > 0 {
-        below -= 1;
-        levels
-            .push(task_level(board, thread, event, owner, stack[below], below))
-            .unwrap();
+        region: board.region_word(pooled.region),
+        index: u32::from(board.member_index(owner, pooled.region)),
     }
 }
 
@@ -160,28 +176,8 @@ fn outer_tasks(board: &Board, lowest: u32) -> &[u32]
     if lowest == 0 || lowest == INITIAL_TASK {
         return &[];
     }
-    up_to(board.stack(0), board.encountering(board.region_of(lowest)))
-}
-
-/// Adds the levels of tasks, at the event of the thread: those of its stack, from top to bottom, and those beyond.
-fn push_tasks(levels: &mut Vec<TaskLevel>, board: &Board, thread: u8, event: Event)
-    requires { vec_len levels.old + LEVEL_LIMIT ≤ vec_capacity levels.old }
-    ensures items { levels.new.items ≡ levels.old.items ++ snapshots.task_levels board.now.world thread event }
-    ensures len { vec_len levels.new ≤ vec_len levels.old + LEVEL_LIMIT }
-{
-    push_stack(levels, board, thread, event, thread, board.stack(thread));
-    let outer = outer_tasks(board, board.lowest(thread));
-    push_stack(levels, board, thread, event, 0, outer);
-}
-
-/// The level of the region with this word.
-fn region_level(board: &Board, word: Word) -> RegionLevel
-    ensures { result ≡ region_level board.now.world word }
-{
-    RegionLevel {
-        word,
-        team: u32::from(board.size(word.identity)),
-    }
+    let region = board.regions.head(board.region_of(lowest));
+    up_to(board.stack(0), region.task)
 }
 
 /// Adds the level of the region with this word, unless it is the last one again.
@@ -193,19 +189,7 @@ fn push_region(levels: &mut Vec<RegionLevel>, board: &Board, last: u32, word: Wo
     ensures capacity { vec_capacity levels.old ≤ vec_capacity levels.new }
 {
     if word.identity != last {
-        levels.push(region_level(board, word)).unwrap();
-    }
-}
-
-/// Adds the levels of regions of these levels of tasks, each once where it repeats directly.
-#[inline(always)]
-fn push_regions(levels: &mut Vec<RegionLevel>, board: &Board, tasks: &[TaskLevel])
-    requires { vec_len levels.old + length tasks.now ≤ vec_capacity levels.old }
-    ensures { levels.new.items ≡ levels.old.items ++ snapshots.region_levels board.now.world tasks.now }
-{
-    let mut last = 0;
-    for level in tasks {
-        push_region(levels, board, last, level.region);
-        last = level.region.identity;
+        let team = u32::from(board.regions.head(word.identity).size);
+        levels.push(RegionLevel { word, team }).unwrap();
     }
 }

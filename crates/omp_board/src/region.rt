@@ -31,16 +31,6 @@ impl Region {
         }
     }
 
-    /// Whether the team has a member with this number.
-    pub fn has_member(&self, member: u8) -> bool
-        ensures { result ≡ has_member (team_of self.now) member }
-    {
-        match &self.team {
-            Some(team) => u32::from(member) < team.size(),
-            None => false,
-        }
-    }
-
     /// What the team answers where the member meets this next.
     #[inline(always)]
     pub fn meeting_answer(&self, member: u8, what: Meeting) -> Result<bool, Mismatch>

@@ -1,14 +1,14 @@
 //! The parallel regions of a run, with what their teams have met.
 
-ghost use Rattle.std.specs.Prelude.{◌≡◌, ◌<◌, ◌≤◌, ◌&&◌, ◌++◌, ◌∷◌, [], Bool, true, IfOk, IfSome, IsOk, IsSome, OnErr, OnOk, length, slice_set, take};
-ghost use Rattle.std.specs.List.{list_all};
+ghost use Rattle.std.specs.Prelude.{◌≡◌, ◌<◌, ◌≤◌, ◌&&◌, ◌++◌, ◌∷◌, [], IfOk, IfSome, IsOk, IsSome, OnErr, OnOk, length};
 ghost use Rattle.team_parts.specs.Meetings.{HasChunk};
 ghost use Rattle.team_parts.specs.Team.{may_pass, with_begun, with_passed};
 ghost use Rattle.omp_model.specs.State.{fresh_region};
 ghost use Rattle.omp_board.specs.Regions.{IsFreshTeam, after_chunk_in, after_meeting_in, after_section_in, first_regions, is_member_in, meeting_in, next_chunk_in, next_section_in, region_in, team_in, turn_room, with_head_in, with_team_in};
 
-use crate::head::{all_left, fresh_head, member_begun, member_left};
+use crate::head::{NO_HEAD, fresh_head};
 use crate::region::Region;
+use omp_model::RegionHead;
 use std::alloc::{AllocError, Global};
 use std::marker::Model;
 use team_parts::{Meeting, Mismatch, TEAM_LIMIT, Team};
@@ -59,7 +59,7 @@ impl Regions {
     {
         let mut list = Vec::new(alloc);
         list.push(Region {
-            head: fresh_head(0, 0),
+            head: NO_HEAD,
             team: None,
         })?;
         list.push(Region {
@@ -108,54 +108,14 @@ impl Regions {
         self.list.len() as u32
     }
 
-    /// The encountering task of the region, or 0.
-    pub fn task(&self, region: u32) -> u32
-        ensures { result ≡ (region_in self.now region).head.task }
+    /// What is kept of the region beside its team.
+    #[inline(always)]
+    pub fn head(&self, region: u32) -> &RegionHead
+        ensures { result.now ≡ (region_in self.now region).head }
     {
         match self.list.get(region as usize) {
-            Some(kept) => kept.head.task,
-            None => 0,
-        }
-    }
-
-    /// How many members the region's team has.
-    pub fn size(&self, region: u32) -> u8
-        ensures { result ≡ (region_in self.now region).head.size }
-    {
-        match self.list.get(region as usize) {
-            Some(kept) => kept.head.size,
-            None => 0,
-        }
-    }
-
-    /// What a tool last stored into the region's data word, or 0.
-    pub fn word(&self, region: u32) -> u64
-        ensures { result ≡ (region_in self.now region).head.word }
-    {
-        match self.list.get(region as usize) {
-            Some(kept) => kept.head.word,
-            None => 0,
-        }
-    }
-
-    /// Whether all members of the region have left it.
-    pub fn all_left(&self, region: u32) -> bool
-        ensures { result ≡ list_all (λ (flag : Bool). flag)
-            (take (region_in self.now region).head.size (region_in self.now region).head.left) }
-    {
-        match self.list.get(region as usize) {
-            Some(kept) => all_left(&kept.head),
-            None => true,
-        }
-    }
-
-    /// Whether the region's team has a member with this number.
-    pub fn is_member(&self, region: u32, member: u8) -> bool
-        ensures { result ≡ is_member_in self.now region member }
-    {
-        match self.list.get(region as usize) {
-            Some(kept) => kept.has_member(member),
-            None => false,
+            Some(kept) => &kept.head,
+            None => &NO_HEAD,
         }
     }
 
@@ -180,52 +140,14 @@ impl Regions {
             .unwrap();
     }
 
-    /// The member with this number has begun, with this implicit task.
-    pub fn begin_member(&mut self, region: u32, member: u8, task: u32)
-        ensures { self.new ≡ with_head_in self.old region
-            (record (region_in self.old region).head {
-              members = slice_set
-                  (region_in self.old region).head.members member task;
-            }) }
+    /// This is kept of the region beside its team from now on.
+    pub fn set_head(&mut self, region: u32, head: RegionHead)
+        ensures { self.new ≡ with_head_in self.old region head }
     {
         let Some(kept) = self.list.get_mut(region as usize) else {
             return;
         };
-        kept.head = member_begun(kept.head, member, task);
-    }
-
-    /// The member with this number has left.
-    pub fn leave(&mut self, region: u32, member: u8)
-        ensures { self.new ≡ with_head_in self.old region
-            (record (region_in self.old region).head {
-              left = slice_set
-                  (region_in self.old region).head.left member true;
-            }) }
-    {
-        let Some(kept) = self.list.get_mut(region as usize) else {
-            return;
-        };
-        kept.head = member_left(kept.head, member);
-    }
-
-    /// The region is over.
-    pub fn end(&mut self, region: u32)
-        ensures { self.new ≡ with_head_in self.old region (record (region_in self.old region).head { ended = true }) }
-    {
-        let Some(kept) = self.list.get_mut(region as usize) else {
-            return;
-        };
-        kept.head.ended = true;
-    }
-
-    /// This is stored into the region's data word.
-    pub fn store_word(&mut self, region: u32, word: u64)
-        ensures { self.new ≡ with_head_in self.old region (record (region_in self.old region).head { word = word }) }
-    {
-        let Some(kept) = self.list.get_mut(region as usize) else {
-            return;
-        };
-        kept.head.word = word;
+        kept.head = head;
     }
 
     /// What the team answers where the member meets this next.

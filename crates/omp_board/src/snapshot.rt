@@ -67,7 +67,7 @@ fn resumed_state(board: &Board, thread: u8) -> u16
         (task_at board.now.world (current board.now.world thread)).code.todo }
 {
     let task = board.current(thread);
-    match board.standing(task) {
+    match board.tasks.standing(task) {
         Upcoming::Sync {
             kind,
             stage: SyncStage::WaitEnd,

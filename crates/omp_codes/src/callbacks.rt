@@ -148,7 +148,8 @@ pub fn profile_has_its_mask()
     ensures bits { (number : ℕ) → (bit_at PROFILE_MASK number == 1) ≡ in_profile number }
 {}
 
-/// A law: the numbers of the callbacks, written out: `ompt_callbacks_t` (OpenMP 5.2, 19.4.2), and the mask of the profile.
+/// A law: the numbers of the callbacks, written out: `ompt_callbacks_t` (OpenMP 5.2, 19.4.2), and the mask of the profile. It is a table: a
+/// clause a constant.
 pub fn callbacks_have_their_numbers()
     ensures thread_begin { callbacks.THREAD_BEGIN ≡ 1 }
     ensures thread_end { callbacks.THREAD_END ≡ 2 }

@@ -44,7 +44,8 @@ run_code =
 
 -- the run that settings fix, of a program
 abbrev pub run_in : TreeView → Settings → Run
-run_in program settings = record { program = program; mask = settings.mask; threads = settings.threads; steps = settings.steps }
+run_in program settings =
+    record { program = program; mask = settings.mask; threads = settings.limits.threads; steps = settings.limits.steps }
 
 -- an event has occurred on the thread, and the world is that after it
 abbrev pub happened : State → ℕ → Event → Turn

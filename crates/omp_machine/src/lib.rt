@@ -6,9 +6,9 @@
 //!
 //! What turns change is a board (`omp_board`): threads, tasks with their code, regions, cells and locks. `state` has the board, the callbacks that
 //! threads are inside, the counts of turns and silent steps and what halted the run, and makes a turn of them: up to 64 silent steps, and then the
-//! event that comes next. `ready` is a thread that may begin a turn, `went` what a turn tells its caller, `settings` what fixes a run beside its
-//! program, and `machine` puts them together. In `specs/` `MachineView` says what a machine is seen as, what is true of each of its states and what a
-//! turn tells, and `State` what a state of the code is seen as.
+//! event that comes next. `ready` is a thread that may begin a turn, `went` what a turn tells its caller, `limits` how many threads and silent steps
+//! a run may have, `settings` what fixes a run beside its program, and `machine` puts them together. In `specs/` `MachineView` says what a machine
+//! is seen as, what is true of each of its states and what a turn tells, and `State` what a state of the code is seen as.
 //!
 //! Proved by the contracts of [`Machine`], over the definitions of `omp_model`:
 //!
@@ -33,12 +33,14 @@
 //! No clause says that `new` or `go` finds memory, nor how far a run comes, nor what a call costs.
 #![tactic(auto)]
 
+mod limits;
 mod machine;
 mod ready;
 mod settings;
 mod state;
 mod went;
 
+pub use limits::Limits;
 pub use machine::{Machine, Memory};
 pub use ready::Ready;
 pub use went::Went;

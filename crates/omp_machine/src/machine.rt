@@ -12,6 +12,7 @@ ghost use Rattle.omp_model.specs.Serial.{enabled_among, first_enabled};
 ghost use Rattle.omp_model.specs.Cause.{whole_value, is_stuck, cause_of_value, cause_of_halt, cause_in};
 ghost use Rattle.omp_machine.specs.MachineView.{MachineView, went_of, is_call};
 
+use crate::limits::Limits;
 use crate::ready::Ready;
 use crate::settings::Settings;
 use crate::state::State;
@@ -56,28 +57,22 @@ impl Model for Machine {
 }
 
 impl Machine {
-    /// The machine of the program in its first state, with the callbacks of the mask registered (bit n for number n), so many threads and so many
+    /// The machine of the program in its first state, with the callbacks of the mask registered (bit n for number n), and so many threads and
     /// silent steps.
     pub fn new(
         alloc: Global,
         program: Program,
         mask: u64,
-        threads: u8,
-        steps: u32,
+        limits: Limits,
     ) -> Result<Machine, Memory>
-        requires some { 1 ≤ threads }
-        requires few { threads ≤ 16 }
-        requires steps { 1 ≤ steps }
-        requires bounded { steps ≤ 30000000 }
-        ensures { IfOk result (λ machine.
-            machine ≡ (let run : Run = record { program = program; mask = mask; threads = threads; steps = steps } in
-            record { run = run; state = first run })) }
+        ensures { IfOk result (λ machine. machine ≡ (let run : Run = record {
+          program = program;
+          mask = mask;
+          threads = limits.threads;
+          steps = limits.steps;
+        } in record { run = run; state = first run })) }
     {
-        let settings = Settings {
-            mask,
-            threads,
-            steps,
-        };
+        let settings = Settings { mask, limits };
         let state = State::new(alloc, program, settings)?;
         Ok(Machine {
             alloc,
@@ -91,7 +86,7 @@ impl Machine {
     pub fn threads(&self) -> u8
         ensures { result ≡ self.now.run.threads }
     {
-        self.settings.threads
+        self.settings.limits.threads
     }
 
     /// Whether the thread may begin a turn.
@@ -126,7 +121,8 @@ impl Machine {
     pub fn stuck(&self) -> bool
         ensures { result ≡ is_stuck self.now.run self.now.state }
     {
-        self.enabled_among(0, self.settings.threads).is_none()
+        self.enabled_among(0, self.settings.limits.threads)
+            .is_none()
             && self.state.none_pending()
             && self.state.halt().is_none()
             && self.whole().is_none()
@@ -156,7 +152,7 @@ impl Machine {
             first_enabled self.now.run self.now.state next }
         ensures arrival { IfSome result (λ ready. ready.arrival ≡ arrival self.now.state.world ready.thread) }
     {
-        match self.ready_among(next, self.settings.threads) {
+        match self.ready_among(next, self.settings.limits.threads) {
             Some(ready) => Some(ready),
             None => self.ready_among(0, next),
         }
@@ -227,7 +223,7 @@ impl Machine {
         self.state.reserve(ready.thread)?;
         let outcome = self
             .state
-            .turn(self.settings.steps, ready.thread, ready.arrival);
+            .turn(self.settings.limits.steps, ready.thread, ready.arrival);
         Ok(self.state.went(self.settings.mask, ready.thread, outcome, &mut self.levels))
     }
 

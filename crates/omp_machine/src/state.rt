@@ -79,13 +79,11 @@ impl Model for State {
 impl State {
     /// The first state of a program's run with these settings.
     pub fn new(alloc: Global, program: Program, settings: Settings) -> Result<State, AllocError>
-        requires some { 1 ≤ settings.threads }
-        requires few { settings.threads ≤ 16 }
         ensures program { IfOk result (λ state. state.program ≡ program) }
         ensures first { IfOk result (λ state. state.state ≡ first (run_in program settings)) }
     {
-        let board = Board::new(alloc, program, settings.threads)?;
-        let pending = nobody(alloc, settings.threads)?;
+        let board = Board::new(alloc, program, settings.limits.threads)?;
+        let pending = nobody(alloc, settings.limits.threads)?;
         Ok(State {
             board,
             pending,

@@ -1,9 +1,6 @@
 //! The entries of a run's history.
 
-ghost use Rattle.std.specs.Prelude.{◌≡◌};
-
-use ompt_calls::Target;
-use std::marker::Model;
+use ompt_calls::{Sequence, Target};
 
 /// What one entry of a history is.
 #[derive(Clone, Copy, PartialEq, Eq)]
@@ -25,24 +22,5 @@ pub struct Entry {
     pub what: What,
 }
 
-/// The entries of a run, in order. Contracts see it as their list.
-#[derive(Drop)]
-pub struct History(pub Vec<Entry>);
-
-impl Model for History {
-    ghost use Rattle.std.specs.Prelude.{List};
-    ghost use Rattle.omp_model.specs.declared.history.Entry.{Entry};
-
-    ghost Value = { List Entry };
-
-    ghost view = { λ history. history.0.items };
-}
-
-impl History {
-    /// The entries, in order.
-    pub fn entries(&self) -> &[Entry]
-        ensures { result.now ≡ self.now }
-    {
-        self.0.as_slice()
-    }
-}
+/// The entries of a run, in order.
+pub type History = Sequence<Entry>;

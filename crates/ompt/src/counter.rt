@@ -5,7 +5,7 @@ ghost use Rattle.tool_api.specs.Record.{Record, initialized, told, finalized};
 ghost use Rattle.ompt.specs.Counting.{CountsCalls};
 
 use ompt_calls::{Call, Reply, Snapshot};
-use tool_api::{ACTIVE, GuestTool, Memory, Registrar};
+use tool_api::{ACTIVE, GuestTool, Registrar, Response};
 
 /// A tool that registers each callback of the profile and counts the calls that it gets. That it stores nothing is to be read.
 #[derive(Drop)]
@@ -31,13 +31,7 @@ impl GuestTool for Counter {
         ACTIVE
     }
 
-    fn callback(
-        &mut self,
-        _seq: u32,
-        _thread: u8,
-        _call: &Call,
-        _snapshot: &Snapshot,
-    ) -> Result<Reply, Memory> {
+    fn callback(&mut self, _seq: u32, _thread: u8, _call: &Call, _snapshot: &Snapshot) -> Response {
         self.calls = self.calls.saturating_add(1);
         Ok(Reply::none())
     }

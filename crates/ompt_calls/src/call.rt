@@ -26,7 +26,7 @@ pub struct Frame {
 }
 
 /// A callback, with its arguments in the order of the specification (OpenMP 5.2, 19.5.2).
-#[derive(Clone, Copy, PartialEq, Eq)]
+#[derive(Clone, Copy)]
 pub enum Call {
     /// `ompt_callback_thread_begin`: kind 1 is the initial thread, 2 a worker.
     ThreadBegin {

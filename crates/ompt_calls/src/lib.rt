@@ -25,6 +25,8 @@
 //!
 //! An [`EventRecord`] is what is kept of an event that a tool heard.
 //!
+//! A [`Sequence`] is a vector that contracts see as its list, here and in the crates above.
+//!
 //! A [`Reply`] has the stores of a tool. Which of them take effect, and in which words, is the definition `stores_of`. What
 //! a tool hears of an event, with these stores, is the definition `Item`.
 //!
@@ -38,6 +40,8 @@ mod event;
 mod line;
 mod mask;
 mod reply;
+mod same_call;
+mod sequence;
 mod snapshot;
 
 pub use argument::{Argument, Arguments};
@@ -47,4 +51,5 @@ pub use event::EventRecord;
 pub use line::{Memory, line_of};
 pub use mask::is_registered;
 pub use reply::{Reply, Store, WordAt};
+pub use sequence::Sequence;
 pub use snapshot::{RegionLevel, RegionLevels, Snapshot, Target, TaskLevel, TaskLevels};

@@ -1,16 +1,11 @@
 //! What a tool can inquire during a call: the state right after the event.
 
-ghost use Rattle.std.specs.Prelude.{◌≡◌, ◌<◌, ◌^◌, length, slice_get};
-ghost use Rattle.std.specs.Iterator.Adapters.{IterYieldsInOrder};
-ghost use Rattle.std.specs.Slice.Iter.{iter_rest};
-ghost use Rattle.ompt_calls.specs.declared.snapshot.TaskLevel.{TaskLevel};
-ghost use Rattle.ompt_calls.specs.declared.snapshot.RegionLevel.{RegionLevel};
+ghost use Rattle.std.specs.Prelude.{◌≡◌};
 ghost use Rattle.ompt_calls.specs.Snapshot.{task_info, parallel_info, target_of};
 
 use crate::call::{Frame, Word};
 use crate::reply::WordAt;
-use std::marker::Model;
-use std::slice;
+use crate::sequence::Sequence;
 
 /// A data word that a tool may store into.
 #[derive(Clone, Copy, PartialEq, Eq)]
@@ -47,31 +42,11 @@ pub struct RegionLevel {
     pub team: u32,
 }
 
-/// The levels of tasks, the current one first: those on a thread's stack, and those beyond. Contracts see them as their list.
-#[derive(Drop)]
-pub struct TaskLevels(pub Vec<TaskLevel>);
+/// The levels of tasks, the current one first: those on a thread's stack, and those beyond.
+pub type TaskLevels = Sequence<TaskLevel>;
 
-impl Model for TaskLevels {
-    ghost use Rattle.std.specs.Prelude.{List};
-    ghost use Rattle.ompt_calls.specs.declared.snapshot.TaskLevel.{TaskLevel};
-
-    ghost Value = { List TaskLevel };
-
-    ghost view = { λ levels. levels.0.items };
-}
-
-/// The parallel regions around a thread's current task, the innermost first. Contracts see them as their list.
-#[derive(Drop)]
-pub struct RegionLevels(pub Vec<RegionLevel>);
-
-impl Model for RegionLevels {
-    ghost use Rattle.std.specs.Prelude.{List};
-    ghost use Rattle.ompt_calls.specs.declared.snapshot.RegionLevel.{RegionLevel};
-
-    ghost Value = { List RegionLevel };
-
-    ghost view = { λ levels. levels.0.items };
-}
+/// The parallel regions around a thread's current task, the innermost first.
+pub type RegionLevels = Sequence<RegionLevel>;
 
 /// What a tool can inquire during a call.
 #[derive(Drop)]
@@ -88,70 +63,6 @@ pub struct Snapshot {
     pub regions: RegionLevels,
     /// The region or the task that the event makes.
     pub fresh: Option<Target>,
-}
-
-impl TaskLevels {
-    /// The levels in turn, the current task's first.
-    pub fn iter(&self) -> slice::Iter<'_, TaskLevel>
-        ensures levels { iter_rest result ≡ self.now }
-        ensures bound { length (iter_rest result) < 2 ^ 64 }
-        ensures runs { IterYieldsInOrder TaskLevel }
-    {
-        self.0.iter()
-    }
-
-    /// The same as a slice.
-    pub fn as_slice(&self) -> &[TaskLevel]
-        ensures { result.now ≡ self.now }
-    {
-        self.0.as_slice()
-    }
-
-    /// How many levels there are.
-    pub fn len(&self) -> usize
-        ensures { result ≡ length self.now }
-    {
-        self.0.len()
-    }
-
-    /// The task at this level.
-    fn get(&self, level: u32) -> Option<TaskLevel>
-        ensures { result ≡ slice_get self.now level }
-    {
-        self.0.get(level as usize).copied()
-    }
-}
-
-impl RegionLevels {
-    /// The levels in turn, the innermost first.
-    pub fn iter(&self) -> slice::Iter<'_, RegionLevel>
-        ensures levels { iter_rest result ≡ self.now }
-        ensures bound { length (iter_rest result) < 2 ^ 64 }
-        ensures runs { IterYieldsInOrder RegionLevel }
-    {
-        self.0.iter()
-    }
-
-    /// The same as a slice.
-    pub fn as_slice(&self) -> &[RegionLevel]
-        ensures { result.now ≡ self.now }
-    {
-        self.0.as_slice()
-    }
-
-    /// How many levels there are.
-    pub fn len(&self) -> usize
-        ensures { result ≡ length self.now }
-    {
-        self.0.len()
-    }
-
-    /// The region at this level.
-    fn get(&self, level: u32) -> Option<RegionLevel>
-        ensures { result ≡ slice_get self.now level }
-    {
-        self.0.get(level as usize).copied()
-    }
 }
 
 impl Snapshot {

@@ -1,11 +1,8 @@
-pub mod Calls
 pub mod Halting
-pub mod Finishing
 pub mod Handing
 pub mod Keeping
 pub mod Reading
 pub mod Telling
 pub mod Written
-pub mod Filing
 pub mod Carrying
 pub mod Beside

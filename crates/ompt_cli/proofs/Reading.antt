@@ -1,20 +1,13 @@
 -- A text spells a program, or is refused for one thing, and not both.
 use Rattle.std.proofs.Common.{◌≡◌, ℕ, ◌≤◌, ◌⊎◌, Bool, true, false, ltb, inl, inr, List, [], ◌∷◌, ◌++◌, append-nil, length, length-append, Option, Some, None, IfSome, IsSomeAnd, Ok, refl, sym, ap, subst, ◌∙◌, arith}
-use Rattle.std.specs.Io.KnownBytes.{Consumes, IsAtEnd}
-use Rattle.std.proofs.lemmas.Bool.{ltb-false, ltb-true}
-use Rattle.ompt_cli.specs.Names.{ConsumesMore, Spot, Token, TokenFault, Reads, beginning, EndsIn, main_of, Tree}
-use Rattle.ompt_cli.specs.Names.{HasSyntaxFault, IsTreeOf, TreeView, root_tree, rule_fault_in, CheckFault}
-use Rattle.c_tokens.specs.workings.Tokens.{tokens_of}
-use Rattle.c_syntax.specs.declared.fault.SyntaxFault.{SyntaxFault}
-use Rattle.c_tokens.proofs.{Ending.ends-one, Ending.read-or-ended, Ending.reads-no_end, Law.reads-one, Spans.tokens-end}
+use Rattle.std.{specs.Io.KnownBytes.Consumes, specs.Io.KnownBytes.IsAtEnd, proofs.lemmas.Bool.ltb-false, proofs.lemmas.Bool.ltb-true}
+use Rattle.c_tokens.{specs.workings.Tokens.tokens_of, proofs.Ending.ends-one, proofs.Ending.read-or-ended, proofs.Ending.reads-no_end, proofs.Law.reads-one, proofs.Spans.tokens-end}
+use Rattle.c_syntax.{specs.declared.fault.SyntaxFault.SyntaxFault, proofs.OneAnswer.fault_one, proofs.OneAnswer.not_both, proofs.OneAnswer.tree_one, proofs.OneAnswer.tree_or_fault}
 use Rattle.c_check.specs.Checked.{rule_fault}
-use Rattle.c_syntax.proofs.OneAnswer.{fault_one, not_both, tree_one, tree_or_fault}
 use Rattle.numbered_runs.specs.Alike.{AreAlike}
-use Rattle.ompt_cli.specs.declared.end.Refusal.TheVariants.{Tokens, Syntax, Rule, TooLong}
-use Rattle.ompt_cli.specs.declared.end.End.TheVariants.{Memory, Refused}
-use Rattle.ompt_cli.specs.Loading.{EndsFor, IsLoaded}
-use Rattle.ompt_cli.specs.Text.{HasTree, IsProgram, IsReadAs, IsRefused, Spells, end_at, end_of, rule_broken}
-use Rattle.ompt_cli.specs.{declared.end.Refusal.Refusal, declared.end.End.End, declared.job.Loaded.Loaded}
+use Rattle.ompt_cli.specs.Names.{ConsumesMore, Spot, Token, TokenFault, Reads, beginning, EndsIn, main_of, Tree, HasSyntaxFault, IsTreeOf, TreeView, root_tree, rule_fault_in, CheckFault}
+use Rattle.ompt_cli.specs.Text.{HasTree, IsProgram, IsReadAs, IsRefused, Spells, end_at, end_of, rule_broken, EndsFor, IsLoaded}
+use Rattle.ompt_cli.specs.declared.{end.Refusal.TheVariants.Tokens, end.Refusal.TheVariants.Syntax, end.Refusal.TheVariants.Rule, end.Refusal.TheVariants.TooLong, end.End.TheVariants.Memory, end.End.TheVariants.Refused, end.Refusal.Refusal, end.End.End, job.Loaded.Loaded}
 
 module _ (text : List ℕ) where
   -- a text has one list of tokens, with one tree
@@ -52,8 +45,7 @@ module _ (text : List ℕ) where
   -- programs that it spells differ in the numbers of their nodes alone
   pub programs-alike : (one other : TreeView) → Spells text one → Spells text other → AreAlike one other
   programs-alike one other first second =
-      let same = reads-one text first.read.tokens second.read.tokens first.read.has.read second.read.has.read in
-      record {
+      let same = reads-one text first.read.tokens second.read.tokens first.read.has.read second.read.has.read in record {
         root = tree_one text (root_tree one) (root_tree other) first.read.has.tree_is second.read.has.tree_is;
         end = first.read.end_is ∙ ap end_of same ∙ sym second.read.end_is;
         main = first.read.main_is ∙ ap (main_of text) same ∙ sym second.read.main_is;
@@ -83,12 +75,16 @@ end_at-last : (spot : Spot) (front : List Token) (last : Token) → end_at spot 
 end_at-last spot [] last = refl
 end_at-last spot (first ∷ front) last = end_at-last first.spot front last
 
--- so the place where a tree says that its text ends is that of the tokens
-pub end-is : (text : List ℕ) (tokens : List Token) (end : Spot) → tokens_of text ≡ Ok tokens → ((front : List Token) (last : Token) → tokens ≡ front ++ last ∷ [] → end ≡ last.spot) → end ≡ end_of tokens
-end-is text tokens end are at_last =
-    let ended = tokens-end text tokens are in
-    at_last ended.front ended.last ended.parts
-    ∙ sym (ap (λ list. end_of list) ended.parts ∙ end_at-last (record { line = 1; column = 1 }) ended.front ended.last)
+-- so a tree that was read of a text is that of the text, with its end and the number of its name `main`
+pub read-as : (text : List ℕ) (tokens : List Token) (program : TreeView) → Reads beginning text tokens → tokens_of text ≡ Ok tokens → IsTreeOf text (root_tree program)
+    → ((front : List Token) (last : Token) → tokens ≡ front ++ last ∷ [] → program.end ≡ last.spot) → program.main ≡ main_of text tokens → IsReadAs text program
+read-as text tokens program read are tree at_last main =
+    let ended = tokens-end text tokens are in record {
+      tokens = tokens;
+      has = record { read = read; tree_is = tree };
+      end_is = at_last ended.front ended.last ended.parts ∙ sym (ap (λ list. end_of list) ended.parts ∙ end_at-last (record { line = 1; column = 1 }) ended.front ended.last);
+      main_is = main;
+    }
 
 -- a text that isn't too long runs or is refused
 module _ (text : List ℕ) (short : length text ≤ 65536) where
@@ -118,13 +114,12 @@ text-judged text = by (ltb 65536 (length text)) refl
 
 -- the text has this to be refused for
 pub ends-refused : (text : List ℕ) (why : Refusal) → IsRefused why text → EndsFor (Some text) (Refused why)
-ends-refused text why is =
-    record {
-      before = tt;
-      refused = λ other same. let one : why ≡ other = cc in subst (λ (why : Refusal). IsRefused why text) one is;
-      accepted = λ other has. refusal-one text why other is has;
-      runs = λ program. absurd (program-not_refused text why program is);
-    }
+ends-refused text why is = record {
+  before = tt;
+  refused = λ other same. let one : why ≡ other = cc in subst (λ (why : Refusal). IsRefused why text) one is;
+  accepted = λ other has. refusal-one text why other is has;
+  runs = λ program. absurd (program-not_refused text why program is);
+}
 
 -- memory failed
 pub ends-memory : (text : Option (List ℕ)) → EndsFor text Memory

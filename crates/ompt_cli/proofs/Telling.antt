@@ -1,15 +1,13 @@
 -- What is known of a report, in the words of `top`.
 use Rattle.std.proofs.Common.{◌∙◌, ◌≢◌, ◌<◌, ◌≤◌, ◌⊎◌, inl, inr, arith, Bool, ◌≡◌, ℕ, List, refl, sym, ap}
 use Rattle.std.specs.Prelude.{Err, Result}
-use Rattle.std.specs.{declared.alloc.Global.Global, declared.dyn_box.DynBox.DynBox}
-use Rattle.ompt_cli.specs.Names.{Record, Cause, Entry, Run, Command, Running, Settings, Request}
+use Rattle.std.specs.declared.{alloc.Global.Global, dyn_box.DynBox.DynBox}
 use Rattle.ompt_words.specs.declared.settings.RunOutput.TheVariants as output
 use Rattle.ompt_words.specs.declared.settings.Request.TheVariants as request
 use Rattle.ompt_cli.specs.declared.end.End.TheVariants as end
-use Rattle.ompt_cli.specs.Commands.{CountsFaults, EndsAs, EndsRun, HasGuests, IsBeforeRun, MayRun, run_of, text_in}
-use Rattle.ompt_cli.specs.Commands.{written_by}
-use Rattle.ompt_cli.specs.{declared.job.Job.Job, Guests.AfterCommand, Guests.GuestsAfter, Guests.GuestsServe}
-use Rattle.ompt_cli.specs.{declared.report.Report.Report, declared.end.End.End, Reports.Observes, Top.ShowsFaults}
+use Rattle.ompt_cli.specs.Names.{Record, Cause, Entry, Run, Command, Running, Settings, Request}
+use Rattle.ompt_cli.specs.Commands.{CountsFaults, EndsAs, EndsRun, HasGuests, IsBeforeRun, MayRun, run_of, text_in, written_by}
+use Rattle.ompt_cli.specs.{declared.job.Job.Job, Guests.AfterCommand, Guests.GuestsAfter, Guests.GuestsServe, declared.report.Report.Report, declared.end.End.End, Reports.Observes, Top.ShowsFaults}
 
 -- the command and the threads of a report are those of its job
 module _ {Table : Type 0} {Behind : Table → Type 0} (job : Job) (report : Report Table Behind) (observes : Observes job report) where

@@ -1,16 +1,15 @@
 -- What a command does: what its words and its text decide, what it reports of its run, and what it writes.
 use Rattle.std.specs.Prelude.{ℕ, ◌≤◌, length, ◌≡◌, ◌≢◌, ◌⊎◌, ⊤, IsSome, IsSomeAnd, List, [], ◌++◌, Option, Some, None, string_bytes}
 use Rattle.std.specs.{Io.KnownBytes.Appends, Io.KnownBytes.Keeps, declared.string.String.String, declared.alloc.Global.Global}
-use Rattle.ompt_cli.specs.Names.{AppendsFront, Rose, TreeView, Cause, Run, records_of, lines_of, after, EventRecord, generated, summary_of}
-use Rattle.ompt_cli.specs.Names.{AreShared, profile_of, SEQ_LIMIT, fields_of, spelling, trace_of, file_of, history_fields, history_spelling}
-use Rattle.ompt_cli.specs.Names.{Entry, Command, Generating, Recording, Running, Settings}
 use Rattle.omp_model.specs.declared.cause.Cause.TheVariants as cause
 use Rattle.ompt_words.specs.declared.settings.RunOutput.TheVariants as output
 use Rattle.tool_report.specs.Timeline.{timeline_of}
 use Rattle.ompt_words.specs.declared.settings.Command.TheVariants.{List as Listing, Profile as Profiling, Timeline as Timelining}
 use Rattle.team_run.specs.Program.{run_of_program}
+use Rattle.ompt_cli.specs.Names.{AppendsFront, Rose, TreeView, Cause, Run, records_of, lines_of, after, EventRecord, generated, summary_of, AreShared, profile_of, SEQ_LIMIT, fields_of, spelling}
+use Rattle.ompt_cli.specs.Names.{trace_of, file_of, history_fields, history_spelling, Entry, Command, Generating, Recording, Running, Settings}
 use Rattle.ompt_cli.specs.declared.end.End.TheVariants.{Ended, Shown, Usage, Refused, ReadFault, WriteFault, Memory}
-use Rattle.ompt_cli.specs.{declared.end.Refusal.Refusal, declared.end.End.End, declared.report.Report.Report}
+use Rattle.ompt_cli.specs.declared.{end.Refusal.Refusal, end.End.End, report.Report.Report}
 
 -- the program that ran, by its tree and by its text. A guest of the report is a box of a vtable and what lies behind it
 abbrev pub program_in : {Table : Type 0} {Behind : Table → Type 0} → Report Table Behind → TreeView
@@ -60,6 +59,11 @@ written_by (Running output.History) text run cause history = history_spelling (h
 written_by (Running output.Profile) text run cause history = (after run history).world.store.text ++ profile_of (records_of run history)
 written_by (Generating blocks) text run cause history =
     summary_of (generated blocks) (records_of run history) (after run history).world.store.text
+
+-- that is what this makes of the events of the run and of what the program printed
+abbrev pub IsWrittenBy : (Command → List EventRecord → List ℕ → List ℕ) → Command → Type 0
+IsWrittenBy text_of command = (text : List ℕ) (run : Run) (cause : Cause) (history : List Entry) →
+    written_by command text run cause history ≡ text_of command (records_of run history) (after run history).world.store.text
 
 -- what a command writes of its run, if there was one
 abbrev pub run_text : {Table : Type 0} {Behind : Table → Type 0} → Option (Report Table Behind) → List ℕ

@@ -1,17 +1,15 @@
 -- The status and the line of each end of a command.
 use Rattle.std.specs.Prelude.{ℕ, ◌⊎◌, ◌↔◌, ◌<◌, if◌then◌else◌, ◌==◌, ◌≡◌, List, [], ◌∷◌, ◌++◌, codes, Option}
 use Rattle.std.specs.{Io.KnownBytes.Appends, Fmt.decimal, Fmt.signed_decimal}
-use Rattle.ompt_cli.specs.Names.{Rose, AppendsFront, Cause, status_of_cause, Spot}
 use Rattle.omp_model.specs.declared.cause.Cause.TheVariants as cause
 use Rattle.c_tokens.specs.language.Faults.{nowhere, fault_number as token_number, fault_spot as token_spot}
 use Rattle.c_syntax.specs.language.Faults.{fault_number as syntax_number, fault_spot as syntax_spot}
 use Rattle.c_check.specs.Faults.{fault_number as rule_number, fault_spot as rule_spot}
 use Rattle.trace_format.specs.Refusing.{number_of_reason}
 use Rattle.history_file.specs.Refusing.{number_of_reason as number_of_history_reason}
-use Rattle.ompt_cli.specs.declared.end.Refusal.TheVariants.{Tokens, Syntax, Rule, TooLong}
-use Rattle.ompt_cli.specs.declared.end.End.TheVariants.{Ended, Shown, Read, TraceRefused, HistoryRefused, Broken, Illegal, Usage, Refused}
-use Rattle.ompt_cli.specs.declared.end.End.TheVariants.{ReadFault, WriteFault, Memory}
-use Rattle.ompt_cli.specs.{declared.end.Refusal.Refusal, declared.end.End.End}
+use Rattle.ompt_cli.specs.declared.end.End.TheVariants.{Ended, Shown, Read, TraceRefused, HistoryRefused, Broken, Illegal, Usage, Refused, ReadFault, WriteFault, Memory}
+use Rattle.ompt_cli.specs.{Names.Rose, Names.AppendsFront, Names.Cause, Names.status_of_cause, Names.Spot, declared.end.Refusal.TheVariants.Tokens, declared.end.Refusal.TheVariants.Syntax}
+use Rattle.ompt_cli.specs.{declared.end.Refusal.TheVariants.Rule, declared.end.Refusal.TheVariants.TooLong, declared.end.Refusal.Refusal, declared.end.End.End}
 
 abbrev pub status_of : End → ℕ
 status_of (Ended why) = status_of_cause why

@@ -1,12 +1,11 @@
 -- What guests stand for after a run: guest t was the part of thread t.
 use Rattle.std.specs.Prelude.{ℕ, ◌≡◌, ◌≢◌, ◌<◌, ◌≤◌, ◌||◌, Bool, false, List, [], ◌∷◌, length, slice_index_or}
-use Rattle.std.specs.{declared.alloc.Global.Global, declared.dyn_box.DynBox.DynBox}
-use Rattle.ompt_cli.specs.Names.{PROFILE_MASK, is_registered, IsUncalled, Record, Handed, Cause, Entry, Run, heard_of, mask_of, HasHeard}
-use Rattle.ompt_cli.specs.Names.{HasStarted, Command, Running}
+use Rattle.std.specs.declared.{alloc.Global.Global, dyn_box.DynBox.DynBox}
 use Rattle.tool_api.specs.declared.handed.Handed.TheVariants as held
 use Rattle.omp_model.specs.declared.cause.Cause.TheVariants as causes
 use Rattle.ompt_words.specs.declared.settings.RunOutput.TheVariants as output
 use Rattle.team_run.specs.{Serving.Becomes, Serving.called_for, Serving.record_of_first, Standing.AreSilent, Unheard.AreUnheard}
+use Rattle.ompt_cli.specs.Names.{PROFILE_MASK, is_registered, IsUncalled, Record, Handed, Cause, Entry, Run, heard_of, mask_of, HasHeard, HasStarted, Command, Running}
 use Rattle.ompt_cli.specs.{declared.report.Report.Report, Commands.run_of}
 
 -- guest 0 was started, with this answer and these callbacks registered, called for what thread 0 heard, and finished after all

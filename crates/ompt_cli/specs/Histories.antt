@@ -1,12 +1,10 @@
 -- What is written of a run as a history file, and what a command that judges such a file has read and written, by how it ended.
 use Rattle.std.specs.Prelude.{ℕ, ⊤, List, ◌++◌, length, Option, IfSome}
 use Rattle.std.specs.{List.flat_map, Io.KnownBytes.Appends, Io.KnownBytes.Keeps}
-use Rattle.ompt_cli.specs.Names.{AppendsFront, TreeView, lines_of, records_of, line_text, line_of_mark, HistoryFile, IsCertificate, file_of}
-use Rattle.ompt_cli.specs.Names.{run_of_file, WritesHistory}
 use Rattle.history_file.specs.{declared.verdict.HeardCall.HeardCall, Certificates.IsLegalFront, Refusing.IsHistoryRefused}
+use Rattle.ompt_cli.specs.Names.{AppendsFront, TreeView, lines_of, records_of, line_text, line_of_mark, HistoryFile, IsCertificate, file_of, run_of_file, WritesHistory}
 use Rattle.ompt_cli.specs.declared.end.End.TheVariants.{HistoryRefused, Illegal, Memory, Read, ReadFault, Refused, WriteFault}
-use Rattle.ompt_cli.specs.Commands.{run_of, text_in}
-use Rattle.ompt_cli.specs.{declared.end.End.End, declared.report.Report.Report, Text.IsRefused, Text.Spells}
+use Rattle.ompt_cli.specs.{Commands.run_of, Commands.text_in, declared.end.End.End, declared.report.Report.Report, Text.IsRefused, Text.Spells}
 
 -- the history file of the run that is reported
 abbrev pub file_of_report : {Table : Type 0} {Behind : Table → Type 0} → Report Table Behind → HistoryFile

@@ -4,7 +4,6 @@ pub mod Text
 pub mod Ends
 pub mod Runs
 pub mod Commands
-pub mod Loading
 pub mod Guests
 pub mod Reports
 pub mod Histories

@@ -1,15 +1,13 @@
 -- What a report says of its run.
 use Rattle.std.specs.Prelude.{ℕ, ◌≡◌, ◌≢◌, List, Option, Some}
-use Rattle.std.specs.{declared.alloc.Global.Global, declared.dyn_box.DynBox.DynBox}
-use Rattle.ompt_cli.specs.Names.{PROFILE_MASK, after, records_of, EventRecord, AreKept, Record, Recording, Running, trace_of, IsTrace}
-use Rattle.ompt_cli.specs.Names.{IsCertificate, IsHistoryFile}
+use Rattle.std.specs.declared.{alloc.Global.Global, dyn_box.DynBox.DynBox}
 use Rattle.omp_model.specs.declared.cause.Cause.TheVariants as cause
 use Rattle.ompt_words.specs.declared.settings.RunOutput.TheVariants as output
-use Rattle.team_run.specs.{Serving.AreSame, Serving.RunsParts, Standing.HearsOwn, Standing.HearsSilent}
-use Rattle.ompt_cli.specs.declared.end.End.TheVariants.{Memory, WriteFault}
+use Rattle.team_run.specs.{Program.RunsTo, Serving.AreSame, Serving.RunsParts, Standing.HearsSilent}
+use Rattle.ompt_cli.specs.Names.{PROFILE_MASK, AreAlways, after, records_of, EventRecord, AreKept, Record, Recording, Running, trace_of, IsTrace, IsCertificate, IsHistoryFile}
 use Rattle.ompt_cli.specs.Commands.{CountsFaults, EndsAs, HasGuests, HasWritten, program_in, run_of, run_text, settings_in, text_in}
-use Rattle.ompt_cli.specs.{declared.report.Report.Report, declared.observing.Observed.Observed, declared.job.Job.Job, declared.end.End.End}
-use Rattle.ompt_cli.specs.{Guests.GuestsAfter, Histories.file_of_report, Runs.RunsTo}
+use Rattle.ompt_cli.specs.{declared.end.End.End, declared.end.End.TheVariants.Memory, declared.end.End.TheVariants.WriteFault, declared.job.Job.Job, declared.observing.Observed.Observed}
+use Rattle.ompt_cli.specs.{declared.report.Report.Report, Guests.GuestsAfter, Histories.file_of_report, Runs.AreOutside}
 
 -- the report is of a run of this job
 pub record Observes {Table : Type 0} {Behind : Table → Type 0} (job : Job) (report : Report Table Behind) : Type 0 where
@@ -17,6 +15,8 @@ pub record Observes {Table : Type 0} {Behind : Table → Type 0} (job : Job) (re
   pub program_is : program_in report ≡ job.loaded.program
   pub text_is : text_in report ≡ job.loaded.text.items
   pub to : RunsTo (run_of report) report.serial report.cause report.history
+  pub outside : report.cause ≢ cause.Memory → AreOutside (run_of report) report.history
+  pub always : AreAlways report.mask
 
 -- where the parts are no guests, all callbacks of the profile are registered, and nothing is stored
 pub record StaysSilent {Table : Type 0} {Behind : Table → Type 0} (report : Report Table Behind) : Type 0 where
@@ -52,7 +52,6 @@ pub record HasObserved {P Table : Type 0} {Behind : Table → Type 0} (stands_fo
   pub runs : RunsParts stands_for observed.report.serial (run_of observed.report) observed.report.cause observed.report.history
       parts observed.parts.items
   pub same : AreSame Same parts observed.parts.items
-  pub own : HearsOwn (run_of observed.report) observed.report.history
   pub printed : observed.text.items ≡ (after (run_of observed.report) observed.report.history).world.store.text
 
 -- parts that keep this of what they are told were run with this job: all callbacks of the profile were registered, nothing was stored, and

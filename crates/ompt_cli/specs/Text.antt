@@ -1,9 +1,11 @@
 -- The texts that run, with their programs, and the refusals of all others.
-use Rattle.std.specs.Prelude.{ℕ, ◌≡◌, ◌<◌, ◌≤◌, List, [], ◌∷◌, length, Option, Some, None}
-use Rattle.ompt_cli.specs.Names.{Spot, Token, TokenFault, beginning, Reads, EndsIn, main_of, Tree, TreeView, root_tree, HasSyntaxFault}
-use Rattle.ompt_cli.specs.Names.{IsTreeOf, CheckFault, rule_fault_in, generated, Command}
+-- What a command comes to that has a text to run: the program that it spells, or an end before a run.
+use Rattle.std.specs.Prelude.{ℕ, ◌≡◌, ◌<◌, ◌≤◌, List, [], ◌∷◌, length, Option, Some, None, IfSome, IsSomeAnd}
 use Rattle.ompt_words.specs.declared.settings.Command.TheVariants.{Generate}
-use Rattle.ompt_cli.specs.declared.end.Refusal.{Refusal, TheVariants.Tokens, TheVariants.Syntax, TheVariants.Rule, TheVariants.TooLong}
+use Rattle.ompt_cli.specs.Names.{Spot, Token, TokenFault, beginning, Reads, EndsIn, main_of, Tree, TreeView, root_tree, HasSyntaxFault, IsTreeOf, CheckFault, rule_fault_in, generated, Command}
+use Rattle.ompt_cli.specs.{declared.end.Refusal.Refusal, declared.end.Refusal.TheVariants.Tokens, declared.end.Refusal.TheVariants.Syntax, declared.end.Refusal.TheVariants.Rule}
+use Rattle.ompt_cli.specs.{declared.end.Refusal.TheVariants.TooLong, Commands.IsBeforeRun, Commands.MayRefuse, Commands.MayRun, declared.end.End.End, declared.end.End.TheVariants.Refused}
+use Rattle.ompt_cli.specs.{declared.job.Loaded.Loaded, declared.report.ProgramTree.ProgramTree}
 
 -- the text that a command runs: what the source has left, and of `gen` the generated program
 abbrev pub text_for : Command → Option (List ℕ) → Option (List ℕ)
@@ -59,3 +61,21 @@ IsRefused TooLong text = 65536 < length text
 -- the text runs
 abbrev pub IsProgram : List ℕ → Type 0
 IsProgram text = (program : TreeView) × Spells text program
+
+-- contracts see the program and the text of what was loaded
+pub record IsOf (loaded : Loaded) (program : ProgramTree) : Type 0 where
+  pub tree : program.tree.value ≡ loaded.program
+  pub text : program.text.value ≡ loaded.text
+
+-- this was loaded of the text: a program that it spells
+pub record IsLoaded (text : Option (List ℕ)) (loaded : Loaded) : Type 0 where
+  pub spelled : Spells loaded.text.items loaded.program
+  pub same : IfSome text (λ text. text ≡ loaded.text.items)
+
+-- The end of a command that comes before its run. If it is a refusal, then for a reason that the text has. Each text that has a reason is
+-- refused for it, and none is that spells a program, unless a read or memory fails.
+pub record EndsFor (text : Option (List ℕ)) (end : End) : Type 0 where
+  pub before : IsBeforeRun end
+  pub refused : (why : Refusal) → end ≡ Refused why → IfSome text (IsRefused why)
+  pub accepted : (why : Refusal) → IsSomeAnd text (IsRefused why) → MayRefuse why end
+  pub runs : IsSomeAnd text IsProgram → MayRun end

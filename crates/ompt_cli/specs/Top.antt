@@ -1,20 +1,17 @@
 -- What the top call says of its words, its run, its text, and what it touched, each as one record.
 use Rattle.std.specs.Prelude.{ℕ, ◌≡◌, ◌≢◌, ◌<◌, ◌⊎◌, ◌↔◌, true, List, [], Option, Some, IfSome, IsSome, IsNone, IsSomeAnd}
-use Rattle.std.specs.{declared.string.String.String, declared.alloc.Global.Global}
-use Rattle.ompt_cli.specs.Names.{Rose, PROFILE_MASK, AreAlways, Cause, cause_of, Legal, Serial, trace_of, IsTrace, IsCertificate}
-use Rattle.ompt_cli.specs.Names.{WritesHistory, AreReadAs, AreWrong, AskForText, HoldBoth, AskInForm, InForm, own_settings, Generating}
-use Rattle.ompt_cli.specs.Names.{Recording, Running, Settings, ReadCommand}
+use Rattle.std.specs.declared.{string.String.String, alloc.Global.Global}
 use Rattle.omp_model.specs.declared.cause.Cause.TheVariants as causes
 use Rattle.ompt_words.specs.declared.settings.Request.TheVariants as request
 use Rattle.ompt_words.specs.declared.settings.RunOutput.TheVariants as output
 use Rattle.omp_model.specs.Serial.{WholeSerial, serial as history_of_serial}
 use Rattle.team_run.specs.Standing.{HearsSilent}
-use Rattle.ompt_cli.specs.Commands.{EndsAs, EndsRun, HasOutput, HasWritten, IsReading, IsShowing, HasGuests, IsUnread, MayRefuse, MayRun}
-use Rattle.ompt_cli.specs.Commands.{out_of, program_in, run_of, run_text, settings_in, text_in}
+use Rattle.ompt_cli.specs.Names.{Rose, PROFILE_MASK, AreAlways, Cause, cause_of, Legal, Serial, trace_of, IsTrace, IsCertificate, WritesHistory, AreReadAs, AreWrong, AskForText, HoldBoth, AskInForm}
+use Rattle.ompt_cli.specs.Names.{InForm, own_settings, Generating, Recording, Running, Settings, ReadCommand}
+use Rattle.ompt_cli.specs.Commands.{EndsAs, EndsRun, HasOutput, HasWritten, IsReading, IsShowing, HasGuests, IsUnread, MayRefuse, MayRun, out_of, program_in, run_of, run_text, settings_in, text_in}
 use Rattle.ompt_cli.specs.declared.end.End.TheVariants.{Ended, Shown, Usage, Refused, ReadFault, WriteFault, Memory}
-use Rattle.ompt_cli.specs.{Runs.AreOutside, Runs.IsReturn, Runs.IsWhole, Histories.file_of_report, Text.IsProgram, Text.IsRefused}
-use Rattle.ompt_cli.specs.{Text.Spells, Text.text_for, Traces.HasReadInput, Traces.IsNested, Words.AskFor, Words.AskForRun, Words.AskToRead}
-use Rattle.ompt_cli.specs.{declared.end.End.End, declared.end.Refusal.Refusal, declared.report.Report.Report}
+use Rattle.ompt_cli.specs.{Runs.AreOutside, Runs.IsReturn, Runs.IsWhole, Histories.file_of_report, Text.IsProgram, Text.IsRefused, Text.Spells, Text.text_for, Traces.HasReadInput, Traces.IsNested}
+use Rattle.ompt_cli.specs.{Words.AskFor, Words.AskForRun, Words.AskToRead, declared.end.End.End, declared.end.Refusal.Refusal, declared.report.Report.Report}
 
 -- What the words decide: which of a run, a text that is shown and a trace or a history file that is read is there, one at most, and which
 -- ends there may be. Words are refused only where clap may find a mistake in them, or where they are `run` with both `--history` and

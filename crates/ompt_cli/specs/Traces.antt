@@ -1,13 +1,12 @@
 -- What a command that reads a trace or a history file has read and written, by how it ended.
 use Rattle.std.specs.Prelude.{ℕ, ◌≡◌, ◌≢◌, IsSomeAnd, List, [], ◌∷◌, ◌++◌, Option, Ok, Err, codes}
 use Rattle.std.specs.Io.KnownBytes.{Appends, Keeps}
-use Rattle.ompt_cli.specs.Names.{AppendsFront, Writes, Refusal, Trace, Breach, HasChecked, Nested, HasReadNested, IsForestText, ReadCommand}
-use Rattle.ompt_cli.specs.Names.{Check, Migrate, Rerun, Show, Tasks, HistoryFile, WritesHistory}
 use Rattle.trace_check.specs.declared.checked.Checked.TheVariants as checked
 use Rattle.trace_copy.specs.declared.copied.Copied.TheVariants as copied
 use Rattle.tool_tasks.specs.declared.unread.Unread.TheVariants as unread
-use Rattle.trace_copy.specs.declared.form.Form.TheVariants.{Lines, SecondVersion}
-use Rattle.trace_copy.specs.{declared.form.Form.Form, Copying.HasCopied}
+use Rattle.trace_copy.specs.{declared.form.Form.TheVariants.Lines, declared.form.Form.TheVariants.SecondVersion, declared.form.Form.Form, Copying.HasCopied}
+use Rattle.ompt_cli.specs.Names.{AppendsFront, Writes, Refusal, Trace, Breach, HasChecked, Nested, HasReadNested, IsForestText, ReadCommand, Check, Migrate, Rerun, Show, Tasks, HistoryFile}
+use Rattle.ompt_cli.specs.Names.{WritesHistory}
 use Rattle.ompt_cli.specs.declared.end.End.TheVariants.{Read, TraceRefused, Broken, ReadFault, WriteFault, Memory}
 use Rattle.ompt_cli.specs.{Histories.Certifies, Histories.HasRerun, Histories.MayCertify, declared.end.End.End}
 

@@ -1,10 +1,9 @@
 -- What the words ask for.
 use Rattle.std.specs.Prelude.{ℕ, ◌≡◌, ◌≤◌, ◌⊎◌, List, map, string_bytes}
-use Rattle.std.specs.{declared.string.String.String, declared.alloc.Global.Global}
-use Rattle.ompt_cli.specs.Names.{Settings, ReadCommand, WordsFault, Request, AreReadAs, AreWrong, AskForText, HoldBoth, IsTextOrMemory}
-use Rattle.ompt_cli.specs.Names.{IsUsageOrMemory, AskInForm, InForm, ReadInForm, own_settings}
+use Rattle.std.specs.declared.{string.String.String, alloc.Global.Global}
 use Rattle.ompt_words.specs.declared.settings.Request.TheVariants as request
 use Rattle.ompt_words.specs.declared.fault.WordsFault.TheVariants as fault
+use Rattle.ompt_cli.specs.Names.{Settings, ReadCommand, WordsFault, Request, AreReadAs, AreWrong, AskForText, HoldBoth, IsTextOrMemory, IsUsageOrMemory, AskInForm, InForm, ReadInForm, own_settings}
 
 -- the bytes of each word
 abbrev pub texts : List (String Global) → List (List ℕ)

@@ -8,20 +8,20 @@ ghost use Rattle.ompt_cli.specs.{Guests.GuestsAfter, Reports.Reports, Top.Carrie
 use crate::end::End;
 use crate::guests::Guests;
 use crate::job::Job;
-use crate::recording::record;
-use crate::report::{AfterRun, Outcome, without_run};
-use crate::reporting::report_kept;
-use crate::run::{run_history, run_printed, run_profiled};
+use crate::report::{Came, Outcome, without_run};
+use crate::reporting::{record, report_kept};
+use crate::run::{run_history, run_printed, run_profile};
 use crate::runner::Runner;
 use crate::text::program_for;
 use ompt_words::{Command, RunOutput, Settings};
 use run_edges::{Sink, Source};
-use std::alloc::AllocError;
+use std::alloc::Global;
 use tool_report::{Profile, Recorder, Timeline};
 
 /// Reads the program, or makes it for `gen`, runs it with these settings, and writes what the command writes.
 pub(crate) fn run_settings<X: Runner, S: Source, O: Sink>(
     runner: &X,
+    alloc: Global,
     settings: Settings,
     source: &mut S,
     out: &mut O,
@@ -35,11 +35,16 @@ pub(crate) fn run_settings<X: Runner, S: Source, O: Sink>(
     ensures guests { IfSome result.ran (GuestsAfter (λ guest h.
         (GuestTool-box guest).stands_for guest.value h) guests.items) }
 {
-    let loaded = match program_for(runner.alloc(), settings.command, source) {
+    let loaded = match program_for(alloc, settings.command, source) {
         Ok(loaded) => loaded,
         Err(end) => return without_run(end),
     };
-    match run_command(runner, Job { loaded, settings }, guests, out) {
+    let job = Job {
+        loaded,
+        settings,
+        alloc,
+    };
+    match run_command(runner, job, guests, out) {
         Ok(ended) => Outcome {
             end: ended.end,
             ran: Some(ended.report),
@@ -51,26 +56,19 @@ pub(crate) fn run_settings<X: Runner, S: Source, O: Sink>(
 }
 
 /// Runs the job, and writes what its command writes of its run. An error says that there was no memory for the run.
-fn run_command<X: Runner, O: Sink>(
-    runner: &X,
-    job: Job,
-    guests: Guests,
-    out: &mut O,
-) -> Result<AfterRun, AllocError>
-    requires { X.may_run runner.now job.settings.serial }
+fn run_command<X: Runner, O: Sink>(by: &X, job: Job, guests: Guests, out: &mut O) -> Came
+    requires { X.may_run by.now job.settings.serial }
     ensures ran { IfOk result (λ ended. Reports (λ guest h. (GuestTool-box guest).stands_for guest.value h)
         O.held O.faults job guests.items out.old out.new ended.end ended.report) }
     ensures untouched { OnErr result (out.new ≡ out.old) }
 {
     match job.settings.command {
-        Command::Run(RunOutput::Printed) => run_printed(runner, job, guests, out),
-        Command::Run(RunOutput::History) => run_history(runner, job, guests, out),
-        Command::Run(RunOutput::Profile) => run_profiled(runner, job, guests, out),
-        Command::Record => record(runner, job, guests, out),
-        Command::Profile => report_kept::<X, Profile, O>(runner, job, guests, out),
-        Command::Timeline(_) => report_kept::<X, Timeline, O>(runner, job, guests, out),
-        Command::List | Command::Generate(_) => report_kept::<X, Recorder, O>(
-            runner, job, guests, out,
-        ),
+        Command::Run(RunOutput::Printed) => run_printed(by, job, guests, out),
+        Command::Run(RunOutput::History) => run_history(by, job, guests, out),
+        Command::Run(RunOutput::Profile) => run_profile(by, job, guests, out),
+        Command::Record => record(by, job, guests, out),
+        Command::Profile => report_kept::<X, Profile, O>(by, job, guests, out),
+        Command::Timeline(_) => report_kept::<X, Timeline, O>(by, job, guests, out),
+        Command::List | Command::Generate(_) => report_kept::<X, Recorder, O>(by, job, guests, out),
     }
 }

@@ -3,9 +3,9 @@
 ghost use Rattle.std.specs.Prelude.{◌≡◌, ◌≤◌, ◌+◌, ◌++◌, ◌∷◌, [], reverse, length, IfOk, vec_len, vec_capacity};
 ghost use Rattle.ompt_cli.specs.Guests.{HandOut, guests_of};
 
-use ompt_calls::{Call, Reply, Snapshot};
-use std::alloc::{AllocError, Global};
-use tool_api::{GuestTool, Handed, Memory, Quiet, Registrar, ToolPart};
+use ompt_calls::{Call, Snapshot};
+use std::alloc::Global;
+use tool_api::{GuestTool, Handed, Memory, Quiet, Registrar, Response, ToolPart};
 
 /// Guests, in their order.
 pub(crate) type Guests = Vec<Box<dyn GuestTool>>;
@@ -34,13 +34,7 @@ impl ToolPart for GuestPart {
         self.0.initialize(registrar)
     }
 
-    fn callback(
-        &mut self,
-        seq: u32,
-        thread: u8,
-        call: &Call,
-        snapshot: &Snapshot,
-    ) -> Result<Reply, Memory> {
+    fn callback(&mut self, seq: u32, thread: u8, call: &Call, snapshot: &Snapshot) -> Response {
         self.0.callback(seq, thread, call, snapshot)
     }
 
@@ -57,11 +51,7 @@ pub(crate) struct Handing {
 }
 
 /// A part for each thread: guest t for thread t, and none for threads past the guests.
-pub(crate) fn hand_out_all(
-    alloc: Global,
-    threads: u8,
-    guests: Guests,
-) -> Result<Handing, AllocError>
+pub(crate) fn hand_out_all(alloc: Global, threads: u8, guests: Guests) -> Result<Handing, Memory>
     ensures handed { IfOk result (λ handing.
         HandOut (λ guest. guest.0) guests.items handing.parts.items (reverse handing.waiting.items)) }
     ensures each { IfOk result (λ handing. length handing.parts.items ≡ threads) }

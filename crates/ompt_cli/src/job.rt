@@ -4,6 +4,7 @@ ghost use Rattle.std.specs.Prelude.{◌≡◌, ◌≤◌, IfOk, length};
 
 use c_check::Program;
 use history_file::FileText;
+use ompt_calls::Sequence;
 use ompt_words::Settings;
 use std::alloc::{AllocError, Global};
 
@@ -23,6 +24,8 @@ pub(crate) struct Job {
     pub loaded: Loaded,
     /// How it is to run.
     pub settings: Settings,
+    /// Where it takes its memory.
+    pub alloc: Global,
     ghost some: { 1 ≤ settings.threads },
     ghost few: { settings.threads ≤ 16 },
     ghost steps: { 1 ≤ settings.steps },
@@ -32,11 +35,11 @@ pub(crate) struct Job {
 
 impl Job {
     /// The program's text once more.
-    pub fn copied_text(&self, alloc: Global) -> Result<FileText, AllocError>
+    pub fn copied_text(&self) -> Result<FileText, AllocError>
         ensures { IfOk result (λ text. text ≡ self.now.loaded.text.items) }
     {
-        let mut text = Vec::new(alloc);
+        let mut text = Vec::new(self.alloc);
         text.extend_from_slice(self.loaded.text.as_slice())?;
-        Ok(FileText(text))
+        Ok(Sequence(text))
     }
 }

@@ -19,19 +19,16 @@
 //! is written where the run ends in any cause but want of memory: also at a trap, at a limit, and where no thread can go on.
 //!
 //! The definitions stand in `specs/`: which words ask for a run or for an input to be read (`Words`), the texts that run, with their
-//! programs, and why others are refused (`Text`), what a command comes to that has a text (`Loading`), the status and the line of each
-//! end (`Ends`), what a run of either kind gives (`Runs`), what a command writes (`Commands`) and reports (`Reports`), what one that
-//! reads a trace (`Traces`) or a history file (`Histories`) has read and written, what guests stand for after a command (`Guests`), and
-//! the records of [`top`]'s contract (`Top`). The runs are those of `omp_model`, the traces those of `trace_format` and `run_trace`,
-//! the rules on them those of `trace_check`, and the history files those of `history_file`. A report holds the tree of its program and
-//! its text for contracts alone ([`ProgramTree`]).
+//! programs, why others are refused, and what a command comes to that has a text (`Text`), the status and the line of each end (`Ends`),
+//! how runs have ended (`Runs`), what a command writes (`Commands`) and reports (`Reports`), what one that reads a trace (`Traces`) or a
+//! history file (`Histories`) has read and written, what guests stand for after a command (`Guests`), and the records of [`top`]'s contract
+//! (`Top`). What a run of either kind gives is said in `team_run`. A report holds the tree of its program and its text for contracts alone
+//! ([`ProgramTree`]).
 //!
 //! [`top_alone`] does the same for all words that don't ask for a run by threads, without the handles for threads and for waiting. By
 //! [`each_text_is_judged`], a law, each text runs or is refused, for one reason.
 //!
-//! [`own_words`] gathers the words for a program's `main`. No clause says which they are, since none can. [`End::exit`] is the end of a
-//! program that comes to no command, and [`Top::has_printed`] tells a `main` whether more may stand behind what was printed: no clause
-//! says when, it is to be read.
+//! [`own_words`] gathers the words for a program's `main`. No clause says which they are, since none can.
 //!
 //! Want of memory is free: no clause says when it comes, only what stands after it. That the calls succeed with ample
 //! memory isn't proved: the rows of `test_commands` show it.
@@ -40,14 +37,12 @@
 mod commands;
 mod end;
 mod guests;
-mod history_writing;
 mod job;
 mod keepers;
 mod laws;
 mod observing;
 mod program_words;
 mod read_commands;
-mod recording;
 mod report;
 mod reporting;
 mod rerunning;

@@ -1,17 +1,16 @@
 //! The run of a job, serially or with a thread for each thread number, and its report.
 
-ghost use Rattle.std.specs.Prelude.{◌≡◌, ◌≢◌, [], IfOk, length, true};
-ghost use Rattle.ompt_cli.specs.Reports.{HasObserved};
+ghost use Rattle.std.specs.Prelude.{◌≡◌, IfOk, List, length, true};
+ghost use Rattle.team_run.specs.Program.{IsRan, run_of};
+ghost use Rattle.ompt_cli.specs.{declared.job.Job.Job, Text.IsOf, Reports.HasObserved};
 
-use crate::guests::Guests;
 use crate::job::Job;
 use crate::report::{ProgramTree, Report};
-use omp_model::Cause;
 use ompt_words::Settings;
 use std::alloc::{AllocError, Global};
 use std::sync::Wait;
 use std::thread::Threads;
-use team_run::{Ran, run_serial};
+use team_run::{Limits, Ran, run_serial};
 use thread_run::run_threads;
 use tool_api::ToolPart;
 
@@ -26,81 +25,53 @@ pub(crate) struct Observed<P> {
 /// What a run gave, unless there was no memory for it. A run that found none for its first entry is none.
 pub(crate) type Seen<P> = Result<Observed<P>, AllocError>;
 
-/// Runs a serial job. Part t is called for the events of thread t. The guests of the report are these.
-pub(crate) fn observe_alone<P: ToolPart>(
-    alloc: Global,
-    job: Job,
-    parts: Vec<P>,
-    guests: Guests,
-) -> Seen<P>
+/// Runs a serial job. Part t is called for the events of thread t. The report has no guests.
+pub(crate) fn observe_alone<P: ToolPart>(job: Job, parts: Vec<P>) -> Seen<P>
     requires serial { job.settings.serial ≡ true }
     requires parts { length parts.items ≡ job.settings.threads }
-    ensures observed { IfOk result (HasObserved P.stands_for P.same job parts.items) }
-    ensures guests { IfOk result (λ observed. observed.report.guests ≡ guests) }
+    ensures { IfOk result (HasObserved P.stands_for P.same job parts.items) }
 {
-    let Job { loaded, settings } = job;
-    let program = ProgramTree::of(&loaded);
-    let (threads, steps) = (settings.threads, settings.steps);
-    let ran = run_serial(alloc, loaded.program, threads, steps, parts)?;
-    Ok(with_report(settings, program, ran, guests))
+    let program = ProgramTree::of(&job.loaded);
+    let limits = Limits {
+        threads: job.settings.threads,
+        steps: job.settings.steps,
+    };
+    let ran = run_serial(job.alloc, job.loaded.program, limits, parts)?;
+    Ok(with_report(job.alloc, job.settings, program, ran))
 }
 
 /// Does what [`observe_alone`] does for each job, by threads where it isn't serial.
 pub(crate) fn observe<R: Threads + Wait + Sync, P: ToolPart>(
     rt: &R,
-    alloc: Global,
     job: Job,
     parts: Vec<P>,
-    guests: Guests,
 ) -> Seen<P>
-    requires parts { length parts.items ≡ job.settings.threads }
-    ensures observed { IfOk result (HasObserved P.stands_for P.same job parts.items) }
-    ensures guests { IfOk result (λ observed. observed.report.guests ≡ guests) }
+    requires { length parts.items ≡ job.settings.threads }
+    ensures { IfOk result (HasObserved P.stands_for P.same job parts.items) }
 {
     if job.settings.serial {
-        return observe_alone(alloc, job, parts, guests);
+        return observe_alone(job, parts);
     }
-    let Job { loaded, settings } = job;
-    let program = ProgramTree::of(&loaded);
-    let (threads, steps) = (settings.threads, settings.steps);
-    let ran = run_threads(rt, alloc, loaded.program, threads, steps, parts)?;
-    let begun = begun_run(ran)?;
-    Ok(with_report(settings, program, begun, guests))
+    let program = ProgramTree::of(&job.loaded);
+    let limits = Limits {
+        threads: job.settings.threads,
+        steps: job.settings.steps,
+    };
+    let ran = run_threads(rt, job.alloc, job.loaded.program, limits, parts)?;
+    Ok(with_report(job.alloc, job.settings, program, ran))
 }
 
-/// The run, unless it found no memory for its first entry.
-fn begun_run<P: ToolPart>(ran: Ran<P>) -> Result<Ran<P>, AllocError>
-    ensures run { IfOk result (λ begun. begun ≡ ran) }
-    ensures begun { IfOk result (λ begun. begun.cause ≡ Cause.Memory → begun.history ≢ []) }
-{
-    if ran.cause == Cause::Memory && ran.history.entries().is_empty() {
-        return Err(AllocError);
-    }
-    Ok(ran)
-}
-
-/// What a run of this program with these settings gave, with these guests in its report.
-fn with_report<P>(
+/// What a run of this program with these settings gave.
+fn with_report<P: ToolPart>(
+    alloc: Global,
     settings: Settings,
     program: ProgramTree,
     ran: Ran<P>,
-    guests: Guests,
 ) -> Observed<P>
-    ensures { result ≡ record {
-      report = record {
-        command = settings.command;
-        cause = ran.cause;
-        program = program;
-        mask = ran.mask;
-        threads = settings.threads;
-        steps = settings.steps;
-        serial = settings.serial;
-        history = ran.history;
-        guests = guests;
-      };
-      parts = ran.parts;
-      text = ran.text;
-    } }
+    ensures { (job : Job) (parts : List P) → settings ≡ job.settings → IsOf job.loaded program →
+        IsRan P.stands_for P.same settings.serial
+        (run_of program.tree.value settings.threads settings.steps ran) parts ran →
+        HasObserved P.stands_for P.same job parts result }
 {
     Observed {
         report: Report {
@@ -112,7 +83,7 @@ fn with_report<P>(
             steps: settings.steps,
             serial: settings.serial,
             history: ran.history,
-            guests,
+            guests: Vec::new(alloc),
         },
         parts: ran.parts,
         text: ran.text,

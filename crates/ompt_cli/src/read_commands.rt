@@ -1,9 +1,8 @@
 //! The commands that read: a trace for `show`, `migrate`, `check` and `tasks`, and a history file for `rerun`.
 
-ghost use Rattle.std.specs.Prelude.{◌≡◌, ◌≢◌, ◌⊎◌, IfOk, IsSomeAnd};
-ghost use Rattle.std.specs.Io.KnownBytes.{Appends};
-ghost use Rattle.ompt_cli.specs.Names.{AppendsFront, SeenFile, WritesHistory, IsForestText, IsTrace};
-ghost use Rattle.ompt_cli.specs.Traces.{HasCopy, HasJudged, HasRead, HasTasks, IsNested, ok_text};
+ghost use Rattle.std.specs.Prelude.{◌≡◌, ◌≢◌, IfOk, IsSomeAnd};
+ghost use Rattle.ompt_cli.specs.Names.{SeenFile, WritesHistory, IsForestText, IsTrace};
+ghost use Rattle.ompt_cli.specs.Traces.{HasCopy, HasJudged, HasRead, HasTasks, IsNested};
 ghost use Rattle.ompt_cli.specs.{Commands.CountsFaults, Commands.IsReading, Histories.Certifies, Histories.MayCertify};
 
 use crate::end::End;
@@ -67,24 +66,14 @@ fn check<S: Source, O: Sink>(alloc: Global, source: &mut S, out: &mut O) -> End
     ensures writes { CountsFaults result End.WriteFault (O.faults out.old) (O.faults out.new) }
 {
     match check_trace(alloc, source) {
-        Checked::Nested => write_ok(out),
+        Checked::Nested => match write_all(out, b"ok\n") {
+            Ok(()) => End::Read,
+            Err(_) => End::WriteFault,
+        },
         Checked::Broken(breach) => End::Broken(breach),
         Checked::Refused(refusal) => End::TraceRefused(refusal),
         Checked::ReadFault => End::ReadFault,
         Checked::Memory => End::Memory,
-    }
-}
-
-/// Writes that a trace is nested.
-fn write_ok<O: Sink>(out: &mut O) -> End
-    ensures end { (result ≡ End.Read) ⊎ (result ≡ End.WriteFault) }
-    ensures whole { result ≢ End.WriteFault → Appends (O.held out.old) (O.held out.new) ok_text }
-    ensures part { result ≡ End.WriteFault → AppendsFront (O.held out.old) (O.held out.new) ok_text }
-    ensures writes { CountsFaults result End.WriteFault (O.faults out.old) (O.faults out.new) }
-{
-    match write_all(out, b"ok\n") {
-        Ok(()) => End::Read,
-        Err(_) => End::WriteFault,
     }
 }
 

@@ -1,12 +1,14 @@
 //! How a command ended, and what it reports of its run.
 
 ghost use Rattle.std.specs.Prelude.{◌≡◌, None};
+ghost use Rattle.ompt_cli.specs.Text.{IsOf};
 
 use crate::end::End;
 use crate::job::Loaded;
 use c_check::Program;
 use omp_model::{Cause, History};
 use ompt_words::{Command, ReadCommand, RunOutput, Settings};
+use std::alloc::AllocError;
 use std::snapshot::Snapshot;
 use tool_api::GuestTool;
 
@@ -23,8 +25,7 @@ pub struct ProgramTree {
 impl ProgramTree {
     /// The tree of the program, with its text.
     pub(crate) fn of(loaded: &Loaded) -> ProgramTree
-        ensures tree { result.tree.value ≡ loaded.now.program }
-        ensures text { result.text.value ≡ loaded.now.text }
+        ensures { IsOf loaded.now result }
     {
         ProgramTree {
             tree: Snapshot::of(&loaded.program),
@@ -85,7 +86,7 @@ pub struct Top {
 }
 
 impl Top {
-    /// Whether the command is `run`, and has written what the program printed, so that more may stand behind it.
+    /// Whether the command has printed what a program printed, so that more may stand behind it.
     pub fn has_printed(&self) -> bool {
         match &self.ran {
             Some(report) => match report.command {
@@ -98,8 +99,8 @@ impl Top {
     }
 }
 
-/// How a command ended, what it reports of its run, if there was one, the text that it was to show, if there was one, and the
-/// command that has read a trace, if one has.
+/// How a command ended, what it reports of its run, if there was one, the text that it was to show, if there was one, and the command that has read a
+/// trace, if one has.
 #[derive(Drop)]
 pub(crate) struct Outcome {
     pub end: End,
@@ -114,6 +115,9 @@ pub(crate) struct AfterRun {
     pub end: End,
     pub report: Report,
 }
+
+/// How a command ended that has run, unless there was no memory for its run.
+pub(crate) type Came = Result<AfterRun, AllocError>;
 
 /// A command that ended before its run.
 pub(crate) fn without_run(end: End) -> Outcome

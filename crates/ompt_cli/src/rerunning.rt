@@ -81,7 +81,7 @@ fn judge<O: Sink>(alloc: Global, file: &HistoryFile, out: &mut O) -> End
     ensures certified { Certifies file.now → MayCertify result }
     ensures writes { CountsFaults result End.WriteFault (O.faults out.old) (O.faults out.new) }
 {
-    match program_of(alloc, file.text.bytes()) {
+    match program_of(alloc, file.text.as_slice()) {
         Ok(program) => judge_program(alloc, program, file, out),
         Err(end) => end,
     }
@@ -114,7 +114,7 @@ fn heard_text(alloc: Global, file: &HistoryFile, calls: &[HeardCall]) -> Made
     let end = line_of_end(EndMark {
         status: file.status,
         detail: file.detail,
-        count: file.history.entries().len() as u32,
+        count: file.history.as_slice().len() as u32,
     });
     text.extend_from_slice(end.as_str().as_bytes())?;
     Ok(text)

@@ -5,11 +5,10 @@ ghost use Rattle.std.specs.Thread.{IsSync};
 ghost use Rattle.ompt_cli.specs.Names.{HandedFor, SameHanded, ProfiledFor, SameProfiled};
 ghost use Rattle.ompt_cli.specs.Reports.{HasObserved};
 
-use crate::guests::{Guests, Held};
+use crate::guests::Held;
 use crate::job::Job;
 use crate::keepers::Keeper;
 use crate::observing::{Seen, observe, observe_alone};
-use std::alloc::Global;
 use std::sync::Wait;
 use std::thread::Threads;
 use tool_profiled::Profiled;
@@ -19,15 +18,11 @@ pub(crate) trait Runner {
     /// Whether it runs jobs that are serial, or jobs that aren't.
     ghost may_run: { Self → Bool → Type 0 };
 
-    /// Where runs take their memory.
-    fn alloc(&self) -> Global;
-
-    /// Runs the job with the parts that this list has. What the list holds afterwards is no clause. The guests of the report are these.
-    fn run<P: Keeper>(&self, job: Job, parts: &mut Vec<P>, guests: Guests) -> Seen<P>
+    /// Runs the job with the parts that this list has. What the list holds afterwards is no clause. The report has no guests.
+    fn run<P: Keeper>(&self, job: Job, parts: &mut Vec<P>) -> Seen<P>
         requires kind { may_run self.now job.settings.serial }
         requires parts { length parts.old.items ≡ job.settings.threads }
-        ensures observed { IfOk result (HasObserved P.stands_for P.same job parts.old.items) }
-        ensures guests { IfOk result (λ observed. observed.report.guests ≡ guests) };
+        ensures { IfOk result (HasObserved P.stands_for P.same job parts.old.items) };
 
     /// Runs the job with these parts. The report has no guests.
     fn run_guests(&self, job: Job, parts: Vec<Held>) -> Seen<Held>
@@ -47,48 +42,40 @@ pub(crate) trait Runner {
 
 /// It runs serial jobs, and waits for nobody.
 #[derive(Drop)]
-pub(crate) struct Alone(pub Global);
+pub(crate) struct Alone;
 
 impl Runner for Alone {
     ghost may_run = { λ _ serial. serial ≡ true };
 
-    fn alloc(&self) -> Global {
-        self.0
-    }
-
-    fn run<P: Keeper>(&self, job: Job, parts: &mut Vec<P>, guests: Guests) -> Seen<P> {
-        P::run_alone(self.0, job, parts, guests)
+    fn run<P: Keeper>(&self, job: Job, parts: &mut Vec<P>) -> Seen<P> {
+        P::run_alone(job, parts)
     }
 
     fn run_guests(&self, job: Job, parts: Vec<Held>) -> Seen<Held> {
-        observe_alone(self.0, job, parts, Vec::new(self.0))
+        observe_alone(job, parts)
     }
 
     fn run_joined(&self, job: Job, parts: Vec<Profiled<Held>>) -> Seen<Profiled<Held>> {
-        observe_alone(self.0, job, parts, Vec::new(self.0))
+        observe_alone(job, parts)
     }
 }
 
 /// It runs jobs by threads too.
 #[derive(Drop)]
-pub(crate) struct WithThreads<'a, R>(pub &'a R, pub Global);
+pub(crate) struct WithThreads<'a, R>(pub &'a R);
 
 impl<'a, R: Threads + Wait + Sync> Runner for WithThreads<'a, R> {
     ghost may_run = { λ _ _. IsSync R.row };
 
-    fn alloc(&self) -> Global {
-        self.1
-    }
-
-    fn run<P: Keeper>(&self, job: Job, parts: &mut Vec<P>, guests: Guests) -> Seen<P> {
-        P::run_by_threads(self.0, self.1, job, parts, guests)
+    fn run<P: Keeper>(&self, job: Job, parts: &mut Vec<P>) -> Seen<P> {
+        P::on_threads(self.0, job, parts)
     }
 
     fn run_guests(&self, job: Job, parts: Vec<Held>) -> Seen<Held> {
-        observe(self.0, self.1, job, parts, Vec::new(self.1))
+        observe(self.0, job, parts)
     }
 
     fn run_joined(&self, job: Job, parts: Vec<Profiled<Held>>) -> Seen<Profiled<Held>> {
-        observe(self.0, self.1, job, parts, Vec::new(self.1))
+        observe(self.0, job, parts)
     }
 }

@@ -1,13 +1,13 @@
 //! The texts that run.
 
 ghost use Rattle.std.specs.Prelude.{ℕ, ◌≡◌, ◌≢◌, ◌≤◌, IfOk, IfErr, Some, length};
-ghost use Rattle.ompt_cli.specs.Names.{Rose, generated};
-ghost use Rattle.ompt_cli.specs.{Loading.EndsFor, Loading.IsLoaded, Text.IsReadAs, Text.Spells, Text.text_for};
+ghost use Rattle.ompt_cli.specs.Names.{Rose};
+ghost use Rattle.ompt_cli.specs.{Text.EndsFor, Text.IsLoaded, Text.Spells, Text.text_for};
 
 use crate::end::{End, Refusal};
 use crate::job::Loaded;
 use c_check::{CheckFault, Program, check};
-use c_syntax::{SyntaxFault, Tree, read_program};
+use c_syntax::{SyntaxFault, read_program};
 use c_tokens::{TokenFault, tokens};
 use ompt_words::Command;
 use run_edges::{ReadAllFault, Source, read_all};
@@ -31,24 +31,12 @@ pub(crate) fn program_for<S: Source>(
     ensures unread { (blocks : ℕ) → command ≡ Command.Generate blocks → source.new ≡ source.old }
 {
     match command {
-        Command::Generate(blocks) => generated_program(alloc, blocks),
+        Command::Generate(blocks) => match generated_text(alloc, blocks) {
+            Ok(made) => load(alloc, made),
+            Err(_) => Err(End::Memory),
+        },
         _ => read_program_of(alloc, source),
     }
-}
-
-/// The program with so many generated blocks.
-fn generated_program(alloc: Global, blocks: u16) -> Result<Loaded, End>
-    ensures loaded { IfOk result (IsLoaded (Some (generated blocks))) }
-    ensures ended { IfErr result (EndsFor (Some (generated blocks))) }
-    ensures read { result ≢ Err End.ReadFault }
-{
-    let Ok(text) = generated_text(alloc, blocks) else {
-        return Err(End::Memory);
-    };
-    if text.len() > TEXT_LIMIT as usize {
-        return Err(End::Refused(Refusal::TooLong));
-    }
-    load(alloc, text)
 }
 
 /// Reads the text to its end. It spells the program, or the command ends for want of a program that runs.
@@ -68,11 +56,13 @@ fn read_program_of<S: Source>(alloc: Global, source: &mut S) -> Result<Loaded, E
 
 /// The program that the text spells, with the text.
 fn load(alloc: Global, text: Vec<u8>) -> Result<Loaded, End>
-    requires { length text.items ≤ 65536 }
     ensures loaded { IfOk result (IsLoaded (Some text.items)) }
     ensures ended { IfErr result (EndsFor (Some text.items)) }
     ensures read { result ≢ Err End.ReadFault }
 {
+    if text.len() > TEXT_LIMIT as usize {
+        return Err(End::Refused(Refusal::TooLong));
+    }
     match program_of(alloc, &text) {
         Ok(program) => Ok(Loaded { program, text }),
         Err(end) => Err(end),
@@ -86,26 +76,6 @@ pub(crate) fn program_of(alloc: Global, text: &[u8]) -> Result<Program, End>
     ensures ended { IfErr result (EndsFor (Some text.now)) }
     ensures read { result ≢ Err End.ReadFault }
 {
-    let tree = match tree_of(alloc, text) {
-        Ok(tree) => tree,
-        Err(end) => return Err(end),
-    };
-    match check(alloc, tree) {
-        Ok(program) => Ok(program),
-        Err(fault) => match fault {
-            CheckFault::Memory => Err(End::Memory),
-            _ => Err(End::Refused(Refusal::Rule(fault))),
-        },
-    }
-}
-
-/// The tree of the text, by its tokens and then by the grammar.
-fn tree_of(alloc: Global, text: &[u8]) -> Result<Tree, End>
-    requires { length text.now ≤ 65536 }
-    ensures tree { IfOk result (IsReadAs text.now) }
-    ensures ended { IfErr result (EndsFor (Some text.now)) }
-    ensures read { result ≢ Err End.ReadFault }
-{
     let tokens = match tokens(alloc, text) {
         Ok(tokens) => tokens,
         Err(fault) => match fault {
@@ -113,11 +83,18 @@ fn tree_of(alloc: Global, text: &[u8]) -> Result<Tree, End>
             _ => return Err(End::Refused(Refusal::Tokens(fault))),
         },
     };
-    match read_program(alloc, text, &tokens) {
-        Ok(tree) => Ok(tree),
+    let tree = match read_program(alloc, text, &tokens) {
+        Ok(tree) => tree,
         Err(fault) => match fault {
-            SyntaxFault::Memory => Err(End::Memory),
-            _ => Err(End::Refused(Refusal::Syntax(fault))),
+            SyntaxFault::Memory => return Err(End::Memory),
+            _ => return Err(End::Refused(Refusal::Syntax(fault))),
+        },
+    };
+    match check(alloc, tree) {
+        Ok(program) => Ok(program),
+        Err(fault) => match fault {
+            CheckFault::Memory => Err(End::Memory),
+            _ => Err(End::Refused(Refusal::Rule(fault))),
         },
     }
 }

@@ -100,7 +100,7 @@ pub fn top_alone<S: Source, O: Sink, E: Sink>(
             if !settings.serial {
                 return Err(ByThreads { settings, guests });
             }
-            let outcome = run_settings(&Alone(alloc), settings, source, out, guests);
+            let outcome = run_settings(&Alone, alloc, settings, source, out, guests);
             Ok(tell(outcome, err))
         }
         Ok(Request::Read(command)) => {
@@ -134,10 +134,8 @@ fn top_by_threads<R: Threads + Wait + Sync, S: Source, O: Sink, E: Sink>(
         (GuestTool-box guest).stands_for guest.value h) asked.guests.items) }
 {
     let ByThreads { settings, guests } = asked;
-    tell(
-        run_settings(&WithThreads(rt, alloc), settings, source, out, guests),
-        err,
-    )
+    let outcome = run_settings(&WithThreads(rt), alloc, settings, source, out, guests);
+    tell(outcome, err)
 }
 
 /// Shows the text that the words ask for, or refuses them. Nothing is read.
@@ -179,12 +177,7 @@ fn tell<E: Sink>(outcome: Outcome, err: &mut E) -> Top
     ensures read { result.read ≡ outcome.read }
     ensures told { TellsEnd E.held E.faults result.status outcome.end err.old err.new }
 {
-    let Outcome {
-        end,
-        ran,
-        shown,
-        read,
-    } = outcome;
+    let end = outcome.end;
     let line = end.line();
     let status = match write_all(err, line.as_str().as_bytes()) {
         Ok(()) => end.status(),
@@ -194,8 +187,8 @@ fn tell<E: Sink>(outcome: Outcome, err: &mut E) -> Top
     Top {
         status,
         end,
-        ran,
-        shown,
-        read,
+        ran: outcome.ran,
+        shown: outcome.shown,
+        read: outcome.read,
     }
 }

@@ -24,16 +24,17 @@ use std::sync::Wait;
 use tool_api::GuestTool;
 
 fn main(rt: HostRuntime) -> ExitCode {
+    let alloc = rt.alloc();
     let mut err = StdSink::new(rt.stderr());
-    let Ok(gathered) = Gathered::new(rt.alloc()) else {
+    let Ok(gathered) = Gathered::new(alloc) else {
         return End::Memory.exit(&mut err);
     };
-    let Ok(pairs) = gathered.guests(rt.alloc(), rt) else {
+    let Ok(pairs) = gathered.guests(alloc, rt) else {
         return End::Memory.exit(&mut err);
     };
-    let mut guests: Vec<Box<dyn GuestTool>> = Vec::new(rt.alloc());
+    let mut guests: Vec<Box<dyn GuestTool>> = Vec::new(alloc);
     for pair in pairs {
-        let Ok(guest) = Box::new(rt.alloc(), pair) else {
+        let Ok(guest) = Box::new(alloc, pair) else {
             return End::Memory.exit(&mut err);
         };
         let Ok(()) = guests.push(guest) else {
@@ -45,17 +46,9 @@ fn main(rt: HostRuntime) -> ExitCode {
     };
     let mut source = StdSource::new(rt.stdin());
     let mut out = StdSink::new(rt.stdout());
-    let top = top(
-        &rt,
-        rt.alloc(),
-        words.as_slice(),
-        &mut source,
-        &mut out,
-        &mut err,
-        guests,
-    );
+    let top = top(&rt, alloc, &words, &mut source, &mut out, &mut err, guests);
     if top.has_printed() {
-        if let Err(end) = report(&rt, rt.alloc(), &gathered, &mut out) {
+        if let Err(end) = report(&rt, alloc, &gathered, &mut out) {
             return end.exit(&mut err);
         }
     }

@@ -4,7 +4,7 @@ use crate::profile::{Barrier, BarrierWait, Profile, Region};
 use omp_codes::{callbacks, endpoints, sync_kinds, task_flags, task_statuses};
 use ompt_calls::{Call, CodePlace, Reply, Snapshot, WordAt};
 use std::sync::{Arc, Mutex, Wait};
-use tool_api::{ACTIVE, GuestTool, Memory, Registrar};
+use tool_api::{ACTIVE, GuestTool, Memory, Registrar, Response};
 
 /// The guest of one thread. The guests of all threads add to one profile. Nothing is promised of what it has then, so `stands_for` holds
 /// of each record.
@@ -34,13 +34,7 @@ impl<R: Wait + Copy + Send> GuestTool for Profiler<R> {
         ACTIVE
     }
 
-    fn callback(
-        &mut self,
-        _seq: u32,
-        thread: u8,
-        call: &Call,
-        _snapshot: &Snapshot,
-    ) -> Result<Reply, Memory> {
+    fn callback(&mut self, _seq: u32, thread: u8, call: &Call, _snapshot: &Snapshot) -> Response {
         add(&mut self.profile.lock(&self.runtime), thread, call)?;
         Ok(reply_to(call))
     }

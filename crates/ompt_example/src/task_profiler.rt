@@ -4,7 +4,7 @@ use crate::task_starts::{TaskStart, TaskStarts};
 use omp_codes::{callbacks, task_statuses};
 use ompt_calls::{Call, Reply, Snapshot, Word, WordAt};
 use std::sync::{Arc, Mutex, Wait};
-use tool_api::{ACTIVE, GuestTool, Memory, Registrar};
+use tool_api::{ACTIVE, GuestTool, Registrar, Response};
 
 /// The guest of one thread. The guests of all threads add to the same starts. Nothing is promised of what these have then, so
 /// `stands_for` holds of each record.
@@ -32,13 +32,7 @@ impl<R: Wait + Copy + Send> GuestTool for TaskProfiler<R> {
         ACTIVE
     }
 
-    fn callback(
-        &mut self,
-        seq: u32,
-        thread: u8,
-        call: &Call,
-        snapshot: &Snapshot,
-    ) -> Result<Reply, Memory> {
+    fn callback(&mut self, seq: u32, thread: u8, call: &Call, snapshot: &Snapshot) -> Response {
         if let Some(next) = begun_task(call) {
             let start = TaskStart {
                 thread,

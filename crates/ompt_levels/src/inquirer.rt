@@ -3,10 +3,10 @@
 use crate::level_line::line_of;
 use crate::lines::Lines;
 use crate::storing::Storing;
-use ompt_calls::{Call, Reply, Snapshot};
+use ompt_calls::{Call, Snapshot};
 use std::alloc::Global;
 use std::sync::{Arc, Mutex, Wait};
-use tool_api::{ACTIVE, GuestTool, Memory, Registrar};
+use tool_api::{ACTIVE, GuestTool, Registrar, Response};
 
 /// The guest of one thread. It registers each callback of the profile. The guests of all threads add to the same lines. Nothing is promised
 /// of what these have then, so `stands_for` holds of each record.
@@ -45,13 +45,7 @@ impl<R: Wait + Copy + Send> GuestTool for Inquirer<R> {
         ACTIVE
     }
 
-    fn callback(
-        &mut self,
-        seq: u32,
-        thread: u8,
-        call: &Call,
-        snapshot: &Snapshot,
-    ) -> Result<Reply, Memory> {
+    fn callback(&mut self, seq: u32, thread: u8, call: &Call, snapshot: &Snapshot) -> Response {
         let line = line_of(self.alloc, seq, thread, snapshot)?;
         self.lines.lock(&self.runtime).add(seq, line)?;
         Ok(self.storing.reply_to(seq, call))

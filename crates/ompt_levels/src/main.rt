@@ -36,22 +36,23 @@ use storing::Storing;
 use tool_api::GuestTool;
 
 fn main(rt: HostRuntime) -> ExitCode {
+    let alloc = rt.alloc();
     let mut err = StdSink::new(rt.stderr());
     let Ok(mut words) = own_words(&rt) else {
         return End::Memory.exit(&mut err);
     };
     let storing = Storing::take(&mut words);
-    let Ok(lines) = Arc::new(rt.alloc(), Mutex::new(Lines::new(rt.alloc()))) else {
+    let Ok(lines) = Arc::new(alloc, Mutex::new(Lines::new(alloc))) else {
         return End::Memory.exit(&mut err);
     };
     // A guest for each thread that there may be.
-    let mut guests: Vec<Box<dyn GuestTool>> = Vec::new(rt.alloc());
+    let mut guests: Vec<Box<dyn GuestTool>> = Vec::new(alloc);
     for _thread in 0..16 {
         let Ok(shared) = Arc::try_clone(&lines) else {
             return End::Memory.exit(&mut err);
         };
-        let inquirer = Inquirer::new(rt, rt.alloc(), shared, storing);
-        let Ok(guest) = Box::new(rt.alloc(), inquirer) else {
+        let inquirer = Inquirer::new(rt, alloc, shared, storing);
+        let Ok(guest) = Box::new(alloc, inquirer) else {
             return End::Memory.exit(&mut err);
         };
         let Ok(()) = guests.push(guest) else {
@@ -60,17 +61,9 @@ fn main(rt: HostRuntime) -> ExitCode {
     }
     let mut source = StdSource::new(rt.stdin());
     let mut out = StdSink::new(rt.stdout());
-    let top = top(
-        &rt,
-        rt.alloc(),
-        words.as_slice(),
-        &mut source,
-        &mut out,
-        &mut err,
-        guests,
-    );
+    let top = top(&rt, alloc, &words, &mut source, &mut out, &mut err, guests);
     if top.has_printed() {
-        if let Err(end) = write_lines(rt.alloc(), &lines.lock(&rt), &mut out) {
+        if let Err(end) = write_lines(alloc, &lines.lock(&rt), &mut out) {
             return end.exit(&mut err);
         }
     }

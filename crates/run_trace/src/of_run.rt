@@ -5,8 +5,8 @@ ghost use Rattle.trace_format.specs.declared.trace.EndMark.{EndMark};
 ghost use Rattle.run_trace.specs.TraceOf.{FitsCause, detail_of, status_of, trace_with};
 
 use omp_model::Cause;
-use ompt_calls::EventRecord;
-use trace_format::{EndMark, Events, Header, RECORDED, SEQ_LIMIT, Trace, VERSION};
+use ompt_calls::{EventRecord, Sequence};
+use trace_format::{EndMark, Header, RECORDED, SEQ_LIMIT, Trace, VERSION};
 
 /// The trace of a run with so many threads and these callbacks registered, that ended in this cause, and of which these events were heard. A run that
 /// found no memory has none.
@@ -29,7 +29,7 @@ pub fn trace_of(threads: u8, mask: u64, cause: Cause, events: Vec<EventRecord>) 
             origin: RECORDED,
             mask,
         },
-        events: Events(events),
+        events: Sequence(events),
         end,
     })
 }

@@ -1,5 +1,5 @@
 -- A book after a visit, and after an answer.
-use Rattle.std.proofs.Common.{◌≡◌, ℕ, ℤ, zero, suc, ◌+◌, ◌*◌, ◌<◌, ◌≤◌, Bool, true, false, not, ◌&&◌, if◌then◌else◌, List, [], ◌∷◌, ◌++◌, length, length-append, Option, Some, None, IsSome, is_none, is_some, slice_index_or, get_or-set_same, refl, sym, ap, subst, ◌∙◌, inl, inr, arith}
+use Rattle.std.proofs.Common.{◌≡◌, ℕ, ℤ, zero, suc, ◌+◌, ◌*◌, ◌<◌, ◌≤◌, max, Bool, true, false, not, ◌&&◌, if◌then◌else◌, List, [], ◌∷◌, ◌++◌, length, length-append, Option, Some, None, IsSome, is_none, is_some, slice_index_or, get_or-set_same, refl, sym, ap, subst, ◌∙◌, inl, inr, arith}
 use Rattle.std.proofs.lemmas.Bool.{true≢false, cases_eq}
 use Rattle.std.proofs.lemmas.List.{length-map}
 use Rattle.ompt_calls.specs.declared.call.Call.{Call}
@@ -24,9 +24,9 @@ use Rattle.omp_model.specs.Turn.{called, enabled, turn}
 use Rattle.omp_model.proofs.Recording.{put_all-halt, put_all-turns, reply-after, reply-legal}
 use Rattle.omp_model.proofs.MadeRuns.{made-after}
 use Rattle.omp_model.proofs.Turns.{Leaves, back-halt, back-turns, leaves-turn, turn-below, turn-goes, turn-pending, turns-rise}
+use Rattle.kept_room.specs.Roomy.{RoomyList}
 use Rattle.omp_machine.specs.declared.went.Went.TheVariants as went
 use Rattle.omp_machine.specs.MachineView.{went_of}
-use Rattle.step_book.specs.Entries.{EntriesView}
 use Rattle.step_book.specs.declared.step.Step.TheVariants.{Told, Ended}
 use Rattle.step_book.specs.Owing.{Owes, OwesAnswer, count_pending}
 use Rattle.step_book.specs.BookView.{BookView, state_of}
@@ -119,10 +119,18 @@ whole-cause run S value whole = by-halt S.halt
     by-halt (Some halt) = refl
     by-halt None = rw whole refl
 
+-- Room that is made leaves the entries as they are.
+
+pub reserved-list : (before after : RoomyList Entry) (room : ℕ) → after ≡ record before { free = max before.free room } → after.list ≡ before.list
+reserved-list before after room is = ap (λ (entries : RoomyList Entry). entries.list) is
+
+pub reserved-free : (before after : RoomyList Entry) (room : ℕ) → after ≡ record before { free = max before.free room } → room ≤ after.free
+reserved-free before after room is = omega (arith, ap (λ (entries : RoomyList Entry). entries.free) is)
+
 -- What is so of every book stays so.
 
 -- at first
-pub book-first : (run : Run) (entries : EntriesView) → 1 ≤ run.threads → entries.entries ≡ [] → IsBook run (first run) entries 0
+pub book-first : (run : Run) (entries : RoomyList Entry) → 1 ≤ run.threads → entries.list ≡ [] → IsBook run (first run) entries 0
 book-first run entries some none =
     record {
       some = some;
@@ -147,27 +155,27 @@ alone-count S after t outcome.Quiet leaves none = omega (arith, ap count_pending
 alone-count S after t (outcome.Happens event) leaves none = cc
 alone-count S after t (outcome.Halts halt) leaves none = omega (arith, ap count_pending leaves.2)
 
-module _ (run : Run) (S : State) (E : EntriesView) (owing : ℕ) (book : IsBook run S E owing) (t : ℕ) where
-  module _ (on : enabled S t ≡ true) (later : EntriesView) (entries : later.entries ≡ E.entries ++ go_at t ∷ []) where
-    turned : (more : ℕ) → count_pending (turn run S t).state.pending ≤ more → more ≤ owing + 1 → 4 * more ≤ later.room → IsBook run (turn run S t).state later more
+module _ (run : Run) (S : State) (E : RoomyList Entry) (owing : ℕ) (book : IsBook run S E owing) (t : ℕ) where
+  module _ (on : enabled S t ≡ true) (later : RoomyList Entry) (entries : later.list ≡ E.list ++ go_at t ∷ []) where
+    turned : (more : ℕ) → count_pending (turn run S t).state.pending ≤ more → more ≤ owing + 1 → 4 * more ≤ later.free → IsBook run (turn run S t).state later more
     turned more pending few room =
         record {
           some = book.some;
-          legal = rw entries (legal-append run (first run) E.entries (go_at t ∷ []) book.legal (rw book.reached (on, tt)));
-          reached = rw entries (after-append run (first run) E.entries (go_at t ∷ []) ∙ ap (λ (S : State). (turn run S t).state) book.reached);
+          legal = rw entries (legal-append run (first run) E.list (go_at t ∷ []) book.legal (rw book.reached (on, tt)));
+          reached = rw entries (after-append run (first run) E.list (go_at t ∷ []) ∙ ap (λ (S : State). (turn run S t).state) book.reached);
           running = turn-below run S t on;
-          short = omega (arith, book.short, few, turns-rise run S t on, ap length entries, length-append E.entries (go_at t ∷ []));
+          short = omega (arith, book.short, few, turns-rise run S t on, ap length entries, length-append E.list (go_at t ∷ []));
           pending = pending;
           room = room;
         }
 
     -- after a turn, whose event may be told
-    pub book-turned : 4 * (owing + 1) ≤ later.room → IsBook run (turn run S t).state later (owing + 1)
+    pub book-turned : 4 * (owing + 1) ≤ later.free → IsBook run (turn run S t).state later (owing + 1)
     book-turned room =
         turned (owing + 1) (omega (arith, book.pending, turn-count S (turn run S t).state t (turn run S t).outcome (leaves-turn run S t))) (omega arith) room
 
     -- after a turn without an event
-    pub book-alone : inside_after (turn run S t).outcome t ≡ None → 4 * owing ≤ later.room → IsBook run (turn run S t).state later owing
+    pub book-alone : inside_after (turn run S t).outcome t ≡ None → 4 * owing ≤ later.free → IsBook run (turn run S t).state later owing
     book-alone none room =
         turned owing (omega (arith, book.pending, alone-count S (turn run S t).state t (turn run S t).outcome (leaves-turn run S t) none)) (omega arith) room
 
@@ -188,27 +196,27 @@ back_from-count S t (Some callback) is some = count-out S.pending t callback is
 
 -- after the stores and the return of a callback, where they may stand next
 pub book-returned :
-    (run : Run) (S : State) (E : EntriesView) (owing : ℕ) → IsBook run S E owing → (t : ℕ) (stores : List Stored) → length stores ≤ 3 → MayStore run S t stores → IsSome (pending_at (put_all S t stores) t)
-    → (later : EntriesView) → later.entries ≡ E.entries ++ event_reply t stores → (fewer_owing : ℕ) → owing ≡ fewer_owing + 1 → 4 * fewer_owing ≤ later.room → IsBook run (back (put_all S t stores) t) later fewer_owing
+    (run : Run) (S : State) (E : RoomyList Entry) (owing : ℕ) → IsBook run S E owing → (t : ℕ) (stores : List Stored) → length stores ≤ 3 → MayStore run S t stores → IsSome (pending_at (put_all S t stores) t)
+    → (later : RoomyList Entry) → later.list ≡ E.list ++ event_reply t stores → (fewer_owing : ℕ) → owing ≡ fewer_owing + 1 → 4 * fewer_owing ≤ later.free → IsBook run (back (put_all S t stores) t) later fewer_owing
 book-returned run S E owing book t stores few may inside later entries fewer_owing one room =
     let between = put_all S t stores in
     let fewer : count_pending (back between t).pending + 1 ≡ count_pending S.pending = back_from-count between t (pending_at between t) refl inside ∙ put_all-count S t stores in
     record {
       some = book.some;
-      legal = rw entries (legal-append run (first run) E.entries (event_reply t stores) book.legal (rw book.reached (reply-legal run S t stores [] may inside tt)));
-      reached = rw entries (after-append run (first run) E.entries (event_reply t stores) ∙ ap (λ (S : State). after_from run S (event_reply t stores)) book.reached ∙ reply-after run S t stores []);
+      legal = rw entries (legal-append run (first run) E.list (event_reply t stores) book.legal (rw book.reached (reply-legal run S t stores [] may inside tt)));
+      reached = rw entries (after-append run (first run) E.list (event_reply t stores) ∙ ap (λ (S : State). after_from run S (event_reply t stores)) book.reached ∙ reply-after run S t stores []);
       running = λ on. rw (back-turns between t, put_all-turns S t stores) (book.running (sym (put_all-halt S t stores) ∙ sym (back-halt between t) ∙ on));
-      short = omega (arith, book.short, book.pending, fewer, one, few, back-turns between t, put_all-turns S t stores, ap length entries, length-append E.entries (event_reply t stores), length-append (puts_at t stores) (back_at t ∷ []), length-map stores (put_at t));
+      short = omega (arith, book.short, book.pending, fewer, one, few, back-turns between t, put_all-turns S t stores, ap length entries, length-append E.list (event_reply t stores), length-append (puts_at t stores) (back_at t ∷ []), length-map stores (put_at t));
       pending = omega (arith, book.pending, fewer, one);
       room = room;
     }
 
 -- What is known of a book's parts, where it is seen as these pages.
-module _ (run : Run) (S : State) (E : EntriesView) (owing : ℕ) (ended : Bool) (book : BookView) (view : record { run = run; history = E.entries; ended = ended } ≡ book) (so : IsBook run S E owing) where
+module _ (run : Run) (S : State) (E : RoomyList Entry) (owing : ℕ) (ended : Bool) (book : BookView) (view : record { run = run; history = E.list; ended = ended } ≡ book) (so : IsBook run S E owing) where
   pub same-run : book.run ≡ run
   same-run = ap (λ (book : BookView). book.run) (sym view)
 
-  pub same-history : book.history ≡ E.entries
+  pub same-history : book.history ≡ E.list
   same-history = ap (λ (book : BookView). book.history) (sym view)
 
   pub same-state : state_of book ≡ S
@@ -218,7 +226,7 @@ module _ (run : Run) (S : State) (E : EntriesView) (owing : ℕ) (ended : Bool) 
   enabled-here t on = subst (λ (S : State). enabled S t ≡ true) same-state on
 
   -- an answer that is owed, said of the parts
-  pub owes-here : (t : ℕ) (snapshot : Snapshot) → OwesAnswer book t snapshot → OwesAnswer (record { run = run; history = E.entries; ended = ended }) t snapshot
+  pub owes-here : (t : ℕ) (snapshot : Snapshot) → OwesAnswer book t snapshot → OwesAnswer (record { run = run; history = E.list; ended = ended }) t snapshot
   owes-here t snapshot owes = subst (λ (book : BookView). OwesAnswer book t snapshot) (sym view) owes
 
 none-of : {A : Type 0} (o : Option A) → is_some o ≡ false → o ≡ None
@@ -226,21 +234,21 @@ none-of None none = refl
 none-of (Some x) none = absurd (true≢false none)
 
 -- the visit to a book that may go on is a turn exactly where the thread is enabled
-pub turn-here : (run : Run) (S : State) (E : EntriesView) (owing : ℕ) (ended : Bool) (book : BookView) → record { run = run; history = E.entries; ended = ended } ≡ book → IsBook run S E owing → (t : ℕ) → ended ≡ false → is_some (whole_value S.world) ≡ false → t < book.run.threads → enabled S t ≡ is_turn book t
+pub turn-here : (run : Run) (S : State) (E : RoomyList Entry) (owing : ℕ) (ended : Bool) (book : BookView) → record { run = run; history = E.list; ended = ended } ≡ book → IsBook run S E owing → (t : ℕ) → ended ≡ false → is_some (whole_value S.world) ≡ false → t < book.run.threads → enabled S t ≡ is_turn book t
 turn-here run S E owing ended book view so t undone unfinished below =
-    let parts : BookView = record { run = run; history = E.entries; ended = ended } in
+    let parts : BookView = record { run = run; history = E.list; ended = ended } in
     let within : t < run.threads = subst (λ (book : BookView). t < book.run.threads) (sym view) below in
     let whole : whole_value (state_of parts).world ≡ None = ap (λ (S : State). whole_value S.world) so.reached ∙ none-of (whole_value S.world) unfinished in
     subst (λ (book : BookView). enabled S t ≡ is_turn book t) view (sym (turn-open parts t undone whole within ∙ ap (λ (S : State). enabled S t) so.reached))
 
 -- a thread that owes an answer is counted
-pub owing-some : (run : Run) (S : State) (E : EntriesView) (owing : ℕ) (ended : Bool) (t : ℕ) (snapshot : Snapshot) → IsBook run S E owing → OwesAnswer (record { run = run; history = E.entries; ended = ended }) t snapshot → 1 ≤ owing
+pub owing-some : (run : Run) (S : State) (E : RoomyList Entry) (owing : ℕ) (ended : Bool) (t : ℕ) (snapshot : Snapshot) → IsBook run S E owing → OwesAnswer (record { run = run; history = E.list; ended = ended }) t snapshot → 1 ≤ owing
 owing-some run S E owing ended t snapshot so owes =
     let inside : pending_at S t ≡ Some (called owes.owes.event) = ap (λ (S : State). pending_at S t) (sym so.reached) ∙ owes.owes.inside in
     omega (arith, so.pending, count-out S.pending t (called owes.owes.event) inside)
 
 -- how long a history may get
-pub short-history : (run : Run) (S : State) (E : EntriesView) (owing t : ℕ) → IsBook run S E owing → enabled S t ≡ true → length E.entries + 4 * owing < 5 * TURN_LIMIT
+pub short-history : (run : Run) (S : State) (E : RoomyList Entry) (owing t : ℕ) → IsBook run S E owing → enabled S t ≡ true → length E.list + 4 * owing < 5 * TURN_LIMIT
 short-history run S E owing t so on = let turns : S.turns < TURN_LIMIT = so.running (turn-goes S t on).halt in omega (arith, so.short)
 
 -- A thread whose event has just been told owes its answer.
@@ -274,11 +282,11 @@ owes-told book t seq call snapshot some below told =
 
 -- said of a book's parts
 pub owes-turned :
-    (run : Run) (S : State) (E : EntriesView) (owing : ℕ) (ended : Bool) → IsBook run S E owing → (t seq : ℕ) (call : Call) (snapshot : Snapshot) → t < run.threads → went.Told call snapshot ≡ went_of run S t → seq ≡ length E.entries
-    → (later : List Entry) → later ≡ E.entries ++ go_at t ∷ [] → Owes run later t seq call snapshot
+    (run : Run) (S : State) (E : RoomyList Entry) (owing : ℕ) (ended : Bool) → IsBook run S E owing → (t seq : ℕ) (call : Call) (snapshot : Snapshot) → t < run.threads → went.Told call snapshot ≡ went_of run S t → seq ≡ length E.list
+    → (later : List Entry) → later ≡ E.list ++ go_at t ∷ [] → Owes run later t seq call snapshot
 owes-turned run S E owing ended so t seq call snapshot below said place later is =
-    let parts : BookView = record { run = run; history = E.entries; ended = ended } in
+    let parts : BookView = record { run = run; history = E.list; ended = ended } in
     let visit_is = turn-went parts S t (went.Told call snapshot) so.reached said in
     let told : HasTold parts t seq call snapshot = told-step parts t seq call snapshot (ap (λ (visit : Visit). visit.step) visit_is ∙ ap (λ seq. Told seq call snapshot) (sym place)) in
     let owes = owes-told parts t seq call snapshot so.some below told in
-    subst (λ history. Owes run history t seq call snapshot) (ap (λ added. E.entries ++ added) told.added_is ∙ sym is) owes
+    subst (λ history. Owes run history t seq call snapshot) (ap (λ added. E.list ++ added) told.added_is ∙ sym is) owes

@@ -1,4 +1,3 @@
-pub mod Entries
 pub mod Owing
 pub mod BookView
 pub mod Sound

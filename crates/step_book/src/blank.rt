@@ -1,12 +1,12 @@
 //! A book that is to be shared, before it has a name.
 
-ghost use Rattle.std.specs.Prelude.{◌≡◌, ◌≤◌, IfOk};
+ghost use Rattle.std.specs.Prelude.{◌≡◌, IfOk};
 ghost use Rattle.omp_model.specs.State.{Run};
 
 use crate::book::Book;
 use crate::seats::{BookSeat, CountTable, new_table};
 use c_check::Program;
-use omp_machine::Memory;
+use omp_machine::{Limits, Memory};
 use std::alloc::Global;
 use std::marker::Model;
 
@@ -35,24 +35,17 @@ impl Model for Blank {
 
 impl Blank {
     /// The book of a run before its first entry: the program with the callbacks of the mask registered (bit n for number n),
-    /// so many threads and so many silent steps.
-    pub fn new(
-        alloc: Global,
-        program: Program,
-        mask: u64,
-        threads: u8,
-        steps: u32,
-    ) -> Result<Blank, Memory>
-        requires some { 1 ≤ threads }
-        requires few { threads ≤ 16 }
-        requires steps { 1 ≤ steps }
-        requires bounded { steps ≤ 30000000 }
-        ensures { IfOk result (λ blank.
-            blank.run ≡ (let run : Run = record { program = program; mask = mask; threads = threads; steps = steps } in
-            run)) }
+    /// and so many threads and silent steps.
+    pub fn new(alloc: Global, program: Program, mask: u64, limits: Limits) -> Result<Blank, Memory>
+        ensures { IfOk result (λ blank. blank.run ≡ (let run : Run = record {
+          program = program;
+          mask = mask;
+          threads = limits.threads;
+          steps = limits.steps;
+        } in run)) }
     {
         let (words, seat) = new_table(alloc)?;
-        let book = Book::start(alloc, program, mask, threads, steps)?;
+        let book = Book::start(alloc, program, mask, limits)?;
         Ok(Blank { words, seat, book })
     }
 }

@@ -16,12 +16,12 @@ ghost use Rattle.step_book.specs.BookView.{BookView, state_of, with_entries};
 ghost use Rattle.step_book.specs.Visit.{idle_step, is_turn, turn_visit, visit};
 
 use crate::closed::Closed;
-use crate::entries::Entries;
 use crate::step::Step;
 use c_check::Program;
-use omp_machine::{Machine, Memory, Ready, Went};
+use kept_room::Roomy;
+use omp_machine::{Limits, Machine, Memory, Ready, Went};
 use omp_model::{Cause, Entry, What};
-use ompt_calls::{Reply, Snapshot, Store};
+use ompt_calls::{Reply, Sequence, Snapshot, Store};
 use std::alloc::Global;
 use std::marker::Model;
 
@@ -39,7 +39,7 @@ pub struct Book {
     /// The machine, after the last entry.
     machine: Machine,
     /// The entries so far, with room for each answer that is owed.
-    entries: Entries,
+    entries: Roomy<Entry>,
     /// How many answers are owed.
     owing: usize,
     /// Whether the run was ended for want of memory.
@@ -54,36 +54,26 @@ impl Model for Book {
 
     ghost coded = { book_view_code };
 
-    ghost view = { λ book. record { run = book.machine.run; history = book.entries.entries; ended = book.ended } };
+    ghost view = { λ book. record { run = book.machine.run; history = book.entries.list; ended = book.ended } };
 
     ghost invariant = { λ book. IsBook book.machine.run book.machine.state book.entries book.owing };
 }
 
 impl Book {
     /// The book of a run before its first entry: the program with the callbacks of the mask registered (bit n for number n),
-    /// so many threads and so many silent steps.
-    pub fn start(
-        alloc: Global,
-        program: Program,
-        mask: u64,
-        threads: u8,
-        steps: u32,
-    ) -> Result<Book, Memory>
-        requires some { 1 ≤ threads }
-        requires few { threads ≤ 16 }
-        requires steps { 1 ≤ steps }
-        requires bounded { steps ≤ 30000000 }
+    /// and so many threads and silent steps.
+    pub fn start(alloc: Global, program: Program, mask: u64, limits: Limits) -> Result<Book, Memory>
         ensures { IfOk result (λ book. book ≡ (let run : Run = record {
           program = program;
           mask = mask;
-          threads = threads;
-          steps = steps;
+          threads = limits.threads;
+          steps = limits.steps;
         } in record { run = run; history = []; ended = false })) }
     {
-        let machine = Machine::new(alloc, program, mask, threads, steps)?;
+        let machine = Machine::new(alloc, program, mask, limits)?;
         Ok(Book {
             machine,
-            entries: Entries::new(alloc),
+            entries: Roomy::new(alloc),
             owing: 0,
             ended: false,
         })
@@ -233,7 +223,7 @@ impl Book {
     pub fn entries(&self) -> &[Entry]
         ensures { result.now ≡ self.now.history }
     {
-        self.entries.as_slice()
+        self.entries.items()
     }
 
     /// The history is legal.
@@ -255,7 +245,7 @@ impl Book {
             self.machine.cause()
         };
         Closed {
-            history: self.entries.into_history(),
+            history: Sequence(self.entries.into_items()),
             text: self.machine.into_text(),
             cause,
         }
@@ -266,17 +256,17 @@ impl Book {
 #[inline(always)]
 fn put_store(
     machine: &mut Machine,
-    entries: &mut Entries,
+    entries: &mut Roomy<Entry>,
     thread: u8,
     store: Option<Store>,
     snapshot: &Snapshot,
 )
-    requires room { 0 < entries.old.room }
+    requires room { 0 < entries.old.free }
     requires may { MayStore machine.old.run machine.old.state thread (stored_of snapshot.now store) }
     ensures machine { machine.new ≡
         record machine.old { state = put_all machine.old.state thread (stored_of snapshot.now store) } }
-    ensures entries { entries.new.entries ≡ entries.old.entries ++ puts_at thread (stored_of snapshot.now store) }
-    ensures room { entries.old.room ≤ entries.new.room + 1 }
+    ensures entries { entries.new.list ≡ entries.old.list ++ puts_at thread (stored_of snapshot.now store) }
+    ensures room { entries.old.free ≤ entries.new.free + 1 }
 {
     let Some(store) = store else {
         return;
@@ -293,12 +283,12 @@ fn put_store(
 
 /// The callback of the thread's event has returned.
 #[inline(always)]
-fn put_back(machine: &mut Machine, entries: &mut Entries, thread: u8)
-    requires room { 0 < entries.old.room }
+fn put_back(machine: &mut Machine, entries: &mut Roomy<Entry>, thread: u8)
+    requires room { 0 < entries.old.free }
     requires inside { IsSome (pending_at machine.old.state thread) }
     ensures machine { machine.new ≡ record machine.old { state = back machine.old.state thread } }
-    ensures entries { entries.new.entries ≡ entries.old.entries ++ back_at thread ∷ [] }
-    ensures room { entries.old.room ≤ entries.new.room + 1 }
+    ensures entries { entries.new.list ≡ entries.old.list ++ back_at thread ∷ [] }
+    ensures room { entries.old.free ≤ entries.new.free + 1 }
 {
     machine.back(thread);
     entries.push(Entry {

@@ -57,7 +57,6 @@
 mod blank;
 mod book;
 mod closed;
-mod entries;
 mod hold;
 mod locked_book;
 mod name;

@@ -9,7 +9,7 @@ use crate::chunks::{chunk_at, next_length, own_chunk};
 use crate::meeting::{Meeting, Schedule, TEAM_LIMIT};
 
 /// A meeting of the team.
-#[derive(Clone, Copy, Debug, PartialEq, Eq)]
+#[derive(Clone, Copy)]
 pub struct Gathering {
     /// What is met.
     pub what: Meeting,

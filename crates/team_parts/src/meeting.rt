@@ -6,7 +6,7 @@ use thiserror::Error;
 pub const TEAM_LIMIT: usize = 16;
 
 /// How the iterations of a loop are dealt (OpenMP 5.2, 11.5.3).
-#[derive(Clone, Copy, Debug, PartialEq, Eq)]
+#[derive(Clone, Copy, PartialEq, Eq)]
 pub enum Schedule {
     /// Chunks of so many, round and round by member; 0 stands for one block each.
     Static(u32),
@@ -18,7 +18,7 @@ pub enum Schedule {
 
 /// A worksharing construct or a barrier that a member has come to. Two members meet the same where all of it is the
 /// same.
-#[derive(Clone, Copy, Debug, PartialEq, Eq)]
+#[derive(Clone, Copy, PartialEq, Eq)]
 pub enum Meeting {
     /// A loop.
     Loop {

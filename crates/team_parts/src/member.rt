@@ -7,7 +7,7 @@ ghost use Rattle.team_parts.specs.Team.{new_member, with_meeting};
 use crate::meeting::Meeting;
 
 /// How far a member has come, in numbers that only grow.
-#[derive(Clone, Copy, Debug, PartialEq, Eq)]
+#[derive(Clone, Copy)]
 pub struct Member {
     /// How many meetings it has had.
     pub met: u64,

@@ -1,12 +1,11 @@
 -- What parts stand for after what their threads hear.
-use Rattle.std.proofs.Common.{◌≡◌, ◌≢◌, ℕ, ◌<◌, ◌==◌, Bool, true, false, if◌then◌else◌, cond, List, [], ◌∷◌, ◌++◌, filter, length, take, drop, slice_index_or, Option, None, refl, sym, ap, subst, ◌∙◌, append_assoc, append-nil, eq-eqb, arith, inl, inr}
-use Rattle.std.proofs.lemmas.{List.take_all, List.drop_all, List.Elements.filter-append, Bool.Decides.eqb_tells}
-use Rattle.team_run.specs.Names.{Item, Record, initialized, told, Cause, Entry, Run, heard, heard_of, mask_of}
-use Rattle.omp_model.specs.declared.cause.Cause.TheVariants as causes
-use Rattle.team_run.specs.Serving.{Becomes, ChangesFirst, called_for, served, Serves, OnlyUnheard, told_on, finished_by}
-use Rattle.team_run.specs.Serving.{RunsParts, AreSame}
-use Rattle.team_run.specs.Unheard.{AreUnheard, is_of, unheard_on}
-use Rattle.team_run.specs.Standing.{AreSilent, HearsSilent, HearsOwn}
+-- What the parts stand for once the part of a thread was called.
+use Rattle.std.proofs.Common.{◌≡◌, ℕ, ◌<◌, ◌==◌, Bool, true, false, if◌then◌else◌, cond, List, [], ◌∷◌, ◌++◌, filter, length, take, drop, slice_index_or, Option, None, refl, sym, ap, subst, ◌∙◌, append_assoc, append-nil, eq-eqb, arith, slice_set, inl, inr}
+use Rattle.std.proofs.lemmas.List.{take_all, drop_all, get_or_default, get_or-set_same, get_or-set_other}
+use Rattle.std.proofs.lemmas.{List.Elements.filter-append, Bool.ne_eqb, Bool.Decides.eqb_tells}
+use Rattle.team_run.specs.Names.{Item, Record, initialized, told, AreAlways, Entry, Run, heard, heard_of, mask_of}
+use Rattle.team_run.specs.Serving.{AreSame, Becomes, ChangesFirst, called_for, served, Serves, OnlyUnheard, told_on, finished_by}
+use Rattle.team_run.specs.{declared.ran.Ran.Ran, Program.HaveServed, Program.IsRan, Standing.AreSilent, Standing.HearsSilent, Standing.HearsOwn, Unheard.unheard_on}
 
 -- the items of one thread
 abbrev pub on_thread : ℕ → List Item → List Item
@@ -22,8 +21,7 @@ told-served h items item = ap (λ calls. record h { calls = calls }) (append_ass
 
 -- what a thread has heard where more was heard
 pub heard_of-more : (run : Run) (H K : List Entry) (items : List Item) (k : ℕ) → heard run K ≡ heard run H ++ items → heard_of run K k ≡ heard_of run H k ++ on_thread k items
-heard_of-more run H K items k more =
-    ap (on_thread k) more ∙ filter-append (λ (item : Item). item.thread == k) (heard run H) items
+heard_of-more run H K items k more = ap (on_thread k) more ∙ filter-append (λ (item : Item). item.thread == k) (heard run H) items
 
 -- and where nothing more was
 pub heard_of-same : (run : Run) (H K : List Entry) (k : ℕ) → heard run K ≡ heard run H → heard_of run K k ≡ heard_of run H k
@@ -36,37 +34,32 @@ told-by false h items item = ap (λ more. served h more) (sym (append-nil items)
 
 -- the part of the thread is told of one item more, and the others are told of nothing
 told_on-served : (t k : ℕ) (h : Record) (items : List Item) (item : Item) → item.thread ≡ t → told_on t k item (served h items) ≡ served h (items ++ on_thread k (item ∷ []))
-told_on-served t k h items item is =
-    subst (λ u. told_on t k item (served h items) ≡ served h (items ++ cond (u == k) (item ∷ []) [])) (sym is) (told-by (t == k) h items item)
+told_on-served t k h items item is = subst (λ u. told_on t k item (served h items) ≡ served h (items ++ cond (u == k) (item ∷ []) [])) (sym is) (told-by (t == k) h items item)
 
 module _ {P : Type 0} (stands_for : P → Record → Type 0) (run : Run) where
   -- one step after another
   pub serves-then : (parts between after : List P) (H K L : List Entry) (unheard : Option ℕ) → Serves stands_for run parts H None between K → Serves stands_for run between K unheard after L → Serves stands_for run parts H unheard after L
-  serves-then parts between after H K L unheard first second =
-      record {
-        as_many = second.as_many ∙ first.as_many;
-        each = λ k d h below stands. second.each k d h (subst (λ n. k < n) (sym first.as_many) below) (first.each k d h below stands);
-      }
+  serves-then parts between after H K L unheard first second = record {
+    as_many = second.as_many ∙ first.as_many;
+    each = λ k d h below stands. second.each k d h (subst (λ n. k < n) (sym first.as_many) below) (first.each k d h below stands);
+  }
 
   -- where nothing more is heard, and the parts stand for what they stood for, but for a call that found no memory
   pub serves-unheard : (parts others : List P) (H K : List Entry) (unheard : Option ℕ) → heard run K ≡ heard run H → OnlyUnheard stands_for unheard parts others → Serves stands_for run parts H unheard others K
-  serves-unheard parts others H K unheard same kept =
-      record {
-        as_many = kept.as_many;
-        each = λ k d h below stands. subst (λ items. stands_for (slice_index_or others k d) (unheard_on unheard k (served h items))) (sym (heard_of-same run H K k same)) (kept.each k below d (served h (heard_of run H k)) stands);
-      }
+  serves-unheard parts others H K unheard same kept = record {
+    as_many = kept.as_many;
+    each = λ k d h below stands. subst (λ items. stands_for (slice_index_or others k d) (unheard_on unheard k (served h items))) (sym (heard_of-same run H K k same)) (kept.each k below d (served h (heard_of run H k)) stands);
+  }
 
   -- where one item more is heard, and the part of its thread was told of it
-  pub serves-told :
-      (parts others : List P) (H K : List Entry) (t : ℕ) (item : Item) → item.thread ≡ t → heard run K ≡ heard run H ++ item ∷ [] → length others ≡ length parts
+  pub serves-told : (parts others : List P) (H K : List Entry) (t : ℕ) (item : Item) → item.thread ≡ t → heard run K ≡ heard run H ++ item ∷ [] → length others ≡ length parts
       → ((k : ℕ) → k < length parts → Becomes stands_for parts others k (told_on t k item)) → Serves stands_for run parts H None others K
-  serves-told parts others H K t item is more as_many each =
-      record {
-        as_many = as_many;
-        each = λ k d h below stands.
-            subst (λ (h : Record). stands_for (slice_index_or others k d) h) (told_on-served t k h (heard_of run H k) item is ∙ ap (λ items. served h items) (sym (heard_of-more run H K (item ∷ []) k more)))
-            (each k below d (served h (heard_of run H k)) stands);
-      }
+  serves-told parts others H K t item is more as_many each = record {
+    as_many = as_many;
+    each = λ k d h below stands.
+        subst (λ (h : Record). stands_for (slice_index_or others k d) h) (told_on-served t k h (heard_of run H k) item is ∙ ap (λ items. served h items) (sym (heard_of-more run H K (item ∷ []) k more)))
+        (each k below d (served h (heard_of run H k)) stands);
+  }
 
 -- calls that are silent are so in both parts
 pub silent-front : (xs ys : List Item) → AreSilent (xs ++ ys) → AreSilent xs
@@ -91,16 +84,11 @@ own-item : (t : ℕ) (item : Item) → item.thread ≡ t → on_thread t (item �
 own-item t item is = rw (is, eq-eqb t t refl) refl
 
 pub item-silent : (run : Run) (H K : List Entry) (t : ℕ) (item : Item) → item.thread ≡ t → heard run K ≡ heard run H ++ item ∷ [] → t < run.threads → HearsSilent run K → item.stores ≡ []
-item-silent run H K t item is more below silent =
-    (subst AreSilent (own-item t item is) (hears-back run H K (item ∷ []) more t below silent)).0
-
--- two numbers of which one is less
-apart : (t k : ℕ) → t < k → (t == k) ≡ false
-apart t k below = elim (eqb_tells t k) [ inl same ↦ absurd (omega (arith, same.1, below)) | inr different ↦ different.0 ]
+item-silent run H K t item is more below silent = (subst AreSilent (own-item t item is) (hears-back run H K (item ∷ []) more t below silent)).0
 
 -- nothing is heard on a thread that the run doesn't have, where one item more is heard on another
 other-item : (t k : ℕ) (item : Item) → item.thread ≡ t → t < k → on_thread k (item ∷ []) ≡ []
-other-item t k item is below = rw (is, apart t k below) refl
+other-item t k item is below = rw (is, ne_eqb t k (λ same. omega (arith, same, below))) refl
 
 pub own-told : (run : Run) (H K : List Entry) (t : ℕ) (item : Item) → item.thread ≡ t → t < run.threads → heard run K ≡ heard run H ++ item ∷ [] → HearsOwn run H → HearsOwn run K
 own-told run H K t item is below more own = λ k past.
@@ -111,22 +99,14 @@ own-unheard run H K same own = λ k past. heard_of-same run H K k same ∙ own k
 
 -- a slice of a whole vector, written back
 pub written-back : {P : Type 0} (new items : List P) (len : ℕ) → length new ≡ length items → length items ≡ len → take len (new ++ drop (length new) items) ≡ new
-written-back new items len same all =
-    ap (λ more. take len (new ++ more)) (drop_all (length new) items (omega (arith, same))) ∙ ap (take len) (append-nil new) ∙ take_all len new (omega (arith, same, all))
+written-back new items len same all = ap (λ more. take len (new ++ more)) (drop_all (length new) items (omega (arith, same))) ∙ ap (take len) (append-nil new) ∙ take_all len new (omega (arith, same, all))
 
 -- what a slice of a whole vector came to, said of the vector
-pub changes-vector :
-    {P : Type 0} (stands_for : P → Record → Type 0) (Same : P → P → Type 0) (more : Record → Record) (items slice changed : List P) (len : ℕ) → slice ≡ items → length items ≡ len
+pub changes-vector : {P : Type 0} (stands_for : P → Record → Type 0) (Same : P → P → Type 0) (more : Record → Record) (items slice changed : List P) (len : ℕ) → slice ≡ items → length items ≡ len
     → ChangesFirst stands_for Same more slice changed → ChangesFirst stands_for Same more items (take len (changed ++ drop (length changed) items))
 changes-vector {P} stands_for Same more items slice changed len whole full change =
     let of_items : ChangesFirst stands_for Same more items changed = subst (λ (slice : List P). ChangesFirst stands_for Same more slice changed) whole change in
     subst (λ (now : List P). ChangesFirst stands_for Same more items now) (sym (written-back changed items len of_items.as_many full)) of_items
-
--- parts of which none was called before were called for all that their threads heard
-pub served-all : {P : Type 0} (stands_for : P → Record → Type 0) (run : Run) (started between : List P) (H : List Entry) (unheard : Option ℕ) → Serves stands_for run started [] unheard between H
-    → (k : ℕ) (d : P) (h : Record) → k < length started → stands_for (slice_index_or started k d) h → stands_for (slice_index_or between k d) (called_for (heard_of run H k) (is_of unheard k) h)
-served-all stands_for run started between H unheard serves k d h below stands =
-    serves.each k d h below (subst (λ (h : Record). stands_for (slice_index_or started k d) h) (sym (served-nil h)) stands)
 
 -- the same parts, where nothing changes, and where one step follows another
 pub same-itself : {P : Type 0} (Same : P → P → Type 0) → ((part : P) → Same part part) → (parts : List P) → AreSame Same parts parts
@@ -136,31 +116,50 @@ pub same-then : {P : Type 0} (Same : P → P → Type 0) → ((first second thir
 same-then Same onward parts between after as_many first second =
     record { each = λ k d below. onward (slice_index_or parts k d) (slice_index_or between k d) (slice_index_or after k d) (first.each k d below) (second.each k d (omega (arith, below, as_many))) }
 
--- the same parts, from before the start of the first one until after its end
-pub same-around :
-    {P : Type 0} (stands_for : P → Record → Type 0) (Same : P → P → Type 0) → ((one other third : P) → Same one other → Same other third → Same one third) → (start last : Record → Record) (parts started between after : List P)
-    → ChangesFirst stands_for Same start parts started → length between ≡ length started → AreSame Same started between → ChangesFirst stands_for Same last between after → AreSame Same parts after
-same-around stands_for Same onward start last parts started between after first many same end =
-    same-then Same onward parts between after (many ∙ first.as_many) (same-then Same onward parts started between first.as_many first.same same) end.same
-
 -- the first part was started, all were called, and the first was finished
-pub runs-parts :
-    {P : Type 0} (stands_for : P → Record → Type 0) (Same : P → P → Type 0) (serial : Bool) (run : Run) (cause : Cause) (H : List Entry) (parts started between after : List P) (answer registered : ℕ) → run.mask ≡ mask_of answer registered → 0 < length parts
-    → ChangesFirst stands_for Same (λ (h : Record). initialized h answer registered) parts started
-    → (unheard : ℕ → Bool) → AreUnheard serial run cause H unheard → (cause ≢ causes.Memory → (k : ℕ) → k < run.threads → unheard k ≡ false) → length between ≡ length started
-    → ((k : ℕ) (d : P) (h : Record) → k < length started → stands_for (slice_index_or started k d) h → stands_for (slice_index_or between k d) (called_for (heard_of run H k) (unheard k) h))
-    → ChangesFirst stands_for Same (finished_by answer) between after → RunsParts stands_for serial run cause H parts after
-runs-parts {P} stands_for Same serial run cause H parts started between after answer registered mask_is some start unheard are_unheard all_heard many called last =
-    record {
-      as_many = last.as_many ∙ many ∙ start.as_many;
-      answer = answer;
-      registered = registered;
-      mask_is = mask_is;
-      unheard = unheard;
-      are_unheard = are_unheard;
-      all_heard = all_heard;
-      first = λ d h stands. last.first d _ (called 0 d (initialized h answer registered) (omega (arith, some, start.as_many)) (start.first d h stands));
-      each = λ k past below d h stands.
-          subst (λ (part : P). stands_for part (called_for (heard_of run H k) (unheard k) h)) (sym (last.others_are k d past))
-          (called k d h (omega (arith, below, start.as_many)) (subst (λ (part : P). stands_for part h) (sym (start.others_are k d past)) stands));
-    }
+pub is-ran :
+    {P : Type 0} (stands_for : P → Record → Type 0) (Same : P → P → Type 0) → ((one other third : P) → Same one other → Same other third → Same one third) → (is_serial : Bool) (run : Run) (ran : Ran P) (parts started between : List P) (answer registered : ℕ)
+    → run.mask ≡ mask_of answer registered → AreAlways ran.mask → 0 < length parts → ChangesFirst stands_for Same (λ (h : Record). initialized h answer registered) parts started
+    → HaveServed stands_for Same is_serial run ran.cause ran.history ran.text.items started between → ChangesFirst stands_for Same (finished_by answer) between ran.parts.items → IsRan stands_for Same is_serial run parts ran
+is-ran {P} stands_for Same onward is_serial run ran parts started between answer registered mask_is always some start served last = record {
+  to = served.to;
+  parts = record {
+    as_many = last.as_many ∙ served.as_many ∙ start.as_many;
+    answer = answer;
+    registered = registered;
+    mask_is = mask_is;
+    unheard = served.unheard;
+    are_unheard = served.are_unheard;
+    all_heard = served.all_heard;
+    first = λ d h stands. last.first d _ (served.each 0 d (initialized h answer registered) (omega (arith, some, start.as_many)) (start.first d h stands));
+    each = λ k past below d h stands.
+        subst (λ (part : P). stands_for part (called_for (heard_of run ran.history k) (served.unheard k) h)) (sym (last.others_are k d past))
+        (served.each k d h (omega (arith, below, start.as_many)) (subst (λ (part : P). stands_for part h) (sym (start.others_are k d past)) stands));
+  };
+  same = same-then Same onward parts between ran.parts.items (served.as_many ∙ start.as_many) (same-then Same onward parts started between start.as_many start.same served.same) last.same;
+  always = always;
+  text = served.text_is;
+}
+
+module _ {P : Type 0} (stands_for : P → Record → Type 0) (parts : List P) (t : ℕ) (found part : P) (is : found ≡ slice_index_or parts t found) (within : t < length parts) where
+  -- the part that was found is the thread's, whatever stands for none
+  found-at : (k : ℕ) (d : P) (h : Record) → t ≡ k → stands_for (slice_index_or parts k d) h → stands_for found h
+  found-at k d h same stands = subst (λ (p : P). stands_for p h) (get_or_default parts t d found within ∙ sym is) (subst (λ i. stands_for (slice_index_or parts i d) h) (sym same) stands)
+
+  -- the part of the thread was told of an item, and the others are as they were
+  pub told-at : (item : Item) → ((h : Record) → stands_for found h → stands_for part (told h item)) → (k : ℕ) → k < length parts → Becomes stands_for parts (slice_set parts t part) k (told_on t k item)
+  told-at item keeps k below d h stands = elim (eqb_tells t k) [
+    | inl same ↦ rw (same.0, ← same.1, get_or-set_same parts t part d within) (keeps h (found-at k d h same.1 stands))
+    | inr different ↦ rw (different.0, get_or-set_other parts t k part d (λ same. different.1 (sym same))) stands
+  ]
+
+-- the part of the thread is the one that it was, and so are the others
+pub same-at : {P : Type 0} (Same : P → P → Type 0) → ((part : P) → Same part part) → (parts : List P) (t : ℕ) (found part : P) → found ≡ slice_index_or parts t found → t < length parts → Same found part
+    → AreSame Same parts (slice_set parts t part)
+same-at {P} Same itself parts t found part is within same = record { each = each }
+  where
+    each : (k : ℕ) (d : P) → k < length parts → Same (slice_index_or parts k d) (slice_index_or (slice_set parts t part) k d)
+    each k d below = elim (eqb_tells t k) [
+      | inl equal ↦ rw (← equal.1, get_or-set_same parts t part d within) (subst (λ p. Same p part) (is ∙ get_or_default parts t found d within) same)
+      | inr different ↦ rw (get_or-set_other parts t k part d (λ equal. different.1 (sym equal))) (itself (slice_index_or parts k d))
+    ]

@@ -1,30 +1,19 @@
 -- A serial run after one more visit, and at its end.
-use Rattle.std.proofs.Common.{◌≡◌, ℕ, ℤ, zero, suc, ◌+◌, ◌<◌, ◌≤◌, Bool, true, false, List, [], ◌∷◌, ◌++◌, length, length-append, replicate, slice_set, slice_index_or, Option, Some, None, IsSome, is_none, refl, sym, ap, subst, ◌∙◌, arith, append-nil, append_assoc, Result, Ok, Err, OnOk, OnErr}
-use Rattle.std.specs.List.{list_all}
-use Rattle.std.proofs.lemmas.{Bool.true≢false, Bool.and_from, Bool.and_parts, List.set-set}
-use Rattle.team_run.specs.Names.{Call, Snapshot, Item, Reply, Stored, stores_of, Entry, Callback, Event}
-use Rattle.team_run.specs.Names.{Outcome, Run, State, first, pending_at, call_of, snap_of, turn, called}
-use Rattle.team_run.specs.Names.{after, put_from, back_from, back, heard, first_enabled, inside_after, StoresNothing}
-use Rattle.team_run.specs.Names.{go_at, event_reply, none_pending, cause_of, BookView, state_of, with_entries}
-use Rattle.team_run.specs.Names.{turn_visit, Record}
+use Rattle.std.proofs.Common.{◌≡◌, ◌≢◌, ℕ, ℤ, zero, suc, ◌+◌, ◌<◌, ◌≤◌, Bool, true, List, [], ◌∷◌, ◌++◌, length, length-append, replicate, slice_set, slice_index_or, Option, Some, None, IsSome, is_none, refl, sym, ap, subst, ◌∙◌, arith, append-nil, append_assoc, Result, Ok, Err, OnOk, OnErr}
+use Rattle.std.{specs.List.list_all, proofs.lemmas.Bool.true≢false, proofs.lemmas.Bool.and_from, proofs.lemmas.Bool.and_parts, proofs.lemmas.List.set-set}
 use Rattle.omp_model.specs.declared.cause.Cause.TheVariants as cause
-use Rattle.ompt_calls.specs.Snapshot.{target_of, stored, stored_of}
-use Rattle.ompt_calls.specs.{declared.snapshot.Target.Target, declared.reply.Store.Store}
-use Rattle.omp_model.specs.declared.event.Outcome.TheVariants.{Idle, Quiet, Happens, Halts}
-use Rattle.omp_model.specs.Cause.{whole_value, is_stuck, cause_of_whole, cause_by_halt}
 use Rattle.omp_model.proofs.Turns.{Leaves, leaves-turn, turn-pending, turns-rise, back-turns}
-use Rattle.omp_model.proofs.Recording.{HasRun-start, HasRun-after, HasRun-alone, HasRun-event, HasRun-serial}
-use Rattle.omp_model.proofs.Recording.{HasRun-pending, heard-alone, heard-event, heard-pending, event_at}
-use Rattle.omp_model.proofs.Recording.{first_enabled-below, first_enabled-enabled, first_enabled-none, put_all-turns}
-use Rattle.omp_model.proofs.Recording.{StoresNothing-append}
-use Rattle.omp_model.{specs.Storing.put_all, specs.Storing.MayStore, specs.declared.event.Halt.Halt, specs.Legal.put}
-use Rattle.omp_model.{specs.Running.HasRun, specs.Serial.enabled_among, proofs.Replies.may-store}
+use Rattle.omp_model.proofs.Recording.{HasRun-start, HasRun-after, HasRun-alone, HasRun-event, HasRun-serial, HasRun-whole, HasRun-pending, heard-alone, heard-event, heard-pending, event_at, first_enabled-below, first_enabled-enabled, first_enabled-none, put_all-turns, StoresNothing-append}
+use Rattle.omp_model.{specs.declared.event.Outcome.TheVariants.Idle, specs.declared.event.Outcome.TheVariants.Quiet, specs.declared.event.Outcome.TheVariants.Happens, specs.declared.event.Outcome.TheVariants.Halts, specs.declared.event.Halt.Halt, specs.Cause.whole_value, specs.Cause.is_stuck, specs.Cause.cause_of_whole, specs.Cause.cause_by_halt, specs.Storing.put_all, specs.Storing.MayStore, specs.Legal.put}
+use Rattle.omp_model.{specs.Running.HasRun, specs.Serial.enabled_among, proofs.SerialLaws.serial-whole, proofs.Replies.may-store}
+use Rattle.ompt_calls.specs.{Snapshot.target_of, Snapshot.stored, Snapshot.stored_of, declared.snapshot.Target.Target, declared.reply.Store.Store}
 use Rattle.omp_machine.proofs.{Storing.Inside, Storing.inside-put, Telling.IsTold, Telling.IsUntold}
 use Rattle.step_book.proofs.{Telling.HasUntold, Telling.IsAlone, Visiting.inside-told}
+use Rattle.team_run.specs.Names.{Call, Snapshot, Item, Reply, Stored, stores_of, Entry, Callback, Cause, Event, Outcome, Run, State, first, pending_at, call_of, snap_of, turn, called, after, put_from, back_from, back, heard, first_enabled, inside_after, StoresNothing, go_at, event_reply, none_pending, cause_of, BookView, state_of, with_entries, turn_visit, Record}
+use Rattle.team_run.specs.Serving.{AreSame, Serves, ServesTo, OnlyUnheard, Answers}
 use Rattle.team_run.specs.Standing.{AreSilent, HearsOwn, HearsSilent, StandsAt, StopsAt}
-use Rattle.team_run.specs.{Serving.Serves, Serving.ServesTo, Serving.OnlyUnheard, Serving.Answers, Unheard.IsUnheard}
-use Rattle.team_run.proofs.Serving.{serves-told, serves-unheard, hears-front, item-silent, own-told, own-unheard}
-use Rattle.team_run.proofs.Serving.{heard_of-same}
+use Rattle.team_run.proofs.Serving.{serves-told, serves-unheard, served-nil, hears-front, item-silent, own-told, own-unheard, heard_of-same}
+use Rattle.team_run.specs.{Program.HaveServed, Unheard.IsUnheard, Unheard.is_of}
 
 abbrev pub all_none : List (Option Callback) → Bool
 all_none pending = list_all (λ (callback : Option Callback). is_none callback) pending
@@ -47,8 +36,7 @@ put-others S t store (Some callback) = set-set S.pending t _ None
 
 put_all-others : (S : State) (t : ℕ) (stores : List Stored) → slice_set (put_all S t stores).pending t None ≡ slice_set S.pending t None
 put_all-others S t [] = refl
-put_all-others S t (store ∷ rest) =
-    put_all-others (put S t store.target store.word) t rest ∙ put-others S t store (pending_at S t)
+put_all-others S t (store ∷ rest) = put_all-others (put S t store.target store.word) t rest ∙ put-others S t store (pending_at S t)
 
 back-pending : (S : State) (t : ℕ) (callback : Option Callback) → IsSome callback → (back_from S t callback).pending ≡ slice_set S.pending t None
 back-pending S t None some = absurd (true≢false (sym some))
@@ -65,8 +53,7 @@ nobody-back run S t event stores nobody happens waits =
 -- a thread inside a callback that is registered still is inside one after its stores
 waits-put_all : (run : Run) (S : State) (t : ℕ) (e : Event) (made : ℕ) (stores : List Stored) → Inside run S t e made → IsSome (pending_at (put_all S t stores) t)
 waits-put_all run S t e made [] inside = rw inside.pending refl
-waits-put_all run S t e made (store ∷ rest) inside =
-    waits-put_all run (put S t store.target store.word) t e (made + 1) rest (inside-put run S t e made store.target store.word inside)
+waits-put_all run S t e made (store ∷ rest) inside = waits-put_all run (put S t store.target store.word) t e (made + 1) rest (inside-put run S t e made store.target store.word inside)
 
 -- a turn with no event leaves the callbacks alone
 pub same-pending : (S after : State) (t : ℕ) (o : Outcome) → Leaves S t after o → inside_after o t ≡ None → after.pending ≡ S.pending
@@ -77,16 +64,15 @@ same-pending S after t (Halts halt) leaves none = leaves.2
 
 -- before the first entry
 pub stands-start : (run : Run) → 1 ≤ run.threads → run.threads ≤ 16 → StandsAt run 0 []
-stands-start run some few =
-    record {
-      some = some;
-      few = few;
-      within = omega arith;
-      nobody = all_none-replicate run.threads;
-      has_run = HasRun-start run;
-      own = λ k past. refl;
-      silent = λ silent. tt;
-    }
+stands-start run some few = record {
+  some = some;
+  few = few;
+  within = omega arith;
+  nobody = all_none-replicate run.threads;
+  has_run = HasRun-start run;
+  own = λ k past. refl;
+  silent = λ silent. tt;
+}
 
 -- a run may stop where it stands
 pub stops-here : (run : Run) (from : ℕ) (H : List Entry) → StandsAt run from H → StopsAt run H
@@ -145,8 +131,7 @@ module _ (run : Run) (from : ℕ) (H K : List Entry) (stands : StandsAt run from
   serves-to serves = record { unheard = None; is_unheard = stands.nobody; serves = serves }
 
   pub serves-all : ServesTo stands_for run parts H others K → Serves stands_for run parts H None others K
-  serves-all served =
-      subst (λ unheard. Serves stands_for run parts H unheard others K) (unheard-none run from K served.unheard stands served.is_unheard) served.serves
+  serves-all served = subst (λ unheard. Serves stands_for run parts H unheard others K) (unheard-none run from K served.unheard stands served.is_unheard) served.serves
 
 -- after a turn, with the calls and the return of its event
 pub record Visited {P : Type 0} (stands_for : P → Record → Type 0) (run : Run) (H : List Entry) (t : ℕ) (parts others : List P) (longer : List Entry) : Type 0 where
@@ -173,31 +158,27 @@ module _ (run : Run) (from : ℕ) (H : List Entry) (t : ℕ) (stands : StandsAt 
 
   -- where the thread stops inside its callback
   pub stops-inside : (e : Event) → (turn run now t).outcome ≡ Happens e → StopsAt run (H ++ go_at t ∷ [])
-  stops-inside e happens =
-      record {
-        serial = HasRun-pending t e stands.has_run turns happens;
-        own = own-unheard run H (H ++ go_at t ∷ []) (heard-pending t e stands.has_run happens) stands.own;
-      }
+  stops-inside e happens = record {
+    serial = HasRun-pending t e stands.has_run turns happens;
+    own = own-unheard run H (H ++ go_at t ∷ []) (heard-pending t e stands.has_run happens) stands.own;
+  }
 
   module _ {P : Type 0} (stands_for : P → Record → Type 0) (parts others : List P) where
     -- where the run has come to this state
     visited-at : (next : State) (longer : List Entry) → HasRun run longer (record { state = next; next = t + 1; inside = None }) → none_pending next ≡ true
-        → HearsOwn run longer → (HearsSilent run longer → StoresNothing longer) → Serves stands_for run parts H None others longer → next.turns ≡ now.turns + 1
-        → Visited stands_for run H t parts others longer
+        → HearsOwn run longer → (HearsSilent run longer → StoresNothing longer) → Serves stands_for run parts H None others longer → next.turns ≡ now.turns + 1 → Visited stands_for run H t parts others longer
     visited-at next longer has nobody own silent serves turned =
-        let there : after run longer ≡ next = HasRun-after has in
-        record {
+        let there : after run longer ≡ next = HasRun-after has in record {
           serves = serves;
-          stands =
-              record {
-                some = stands.some;
-                few = stands.few;
-                within = below;
-                nobody = ap none_pending there ∙ nobody;
-                has_run = subst (λ (S : State). HasRun run longer (record { state = S; next = t + 1; inside = None })) (sym there) has;
-                own = own;
-                silent = silent;
-              };
+          stands = record {
+            some = stands.some;
+            few = stands.few;
+            within = below;
+            nobody = ap none_pending there ∙ nobody;
+            has_run = subst (λ (S : State). HasRun run longer (record { state = S; next = t + 1; inside = None })) (sym there) has;
+            own = own;
+            silent = silent;
+          };
           turns = ap (λ (S : State). S.turns) there ∙ turned;
         }
 
@@ -272,19 +253,17 @@ module _ (run : Run) (from : ℕ) (H : List Entry) (t : ℕ) (stands : StandsAt 
 
     -- where the part found no memory, nothing more was heard, and the history ends inside the callback
     pub serves-said : OnlyUnheard stands_for (Some t) parts others → ServesTo stands_for run parts H others (H ++ go_at t ∷ [])
-    serves-said kept =
-        record {
-          unheard = Some t;
-          is_unheard =
-              record {
-                before = H;
-                last = refl;
-                callback = called e;
-                inside = ap (λ (S : State). pending_at S t) (stands.has_run.reached (go_at t ∷ [])) ∙ inside-event e said.happens;
-                registered = said.registered;
-              };
-          serves = serves-unheard stands_for run parts others H (H ++ go_at t ∷ []) (Some t) (heard-pending t e stands.has_run said.happens) kept;
-        }
+    serves-said kept = record {
+      unheard = Some t;
+      is_unheard = record {
+        before = H;
+        last = refl;
+        callback = called e;
+        inside = ap (λ (S : State). pending_at S t) (stands.has_run.reached (go_at t ∷ [])) ∙ inside-event e said.happens;
+        registered = said.registered;
+      };
+      serves = serves-unheard stands_for run parts others H (H ++ go_at t ∷ []) (Some t) (heard-pending t e stands.has_run said.happens) kept;
+    }
 
 -- a visit that told nothing: what was added, and what is so afterwards
 pub record QuietVisit {P : Type 0} (stands_for : P → Record → Type 0) (book next : BookView) (t : ℕ) (parts : List P) : Type 0 where
@@ -294,20 +273,41 @@ pub record QuietVisit {P : Type 0} (stands_for : P → Record → Type 0) (book 
 
 module _ (book next : BookView) (from t : ℕ) (stands : StandsAt book.run from book.history) (turns : first_enabled book.run (state_of book) from ≡ Some t) (added : next ≡ with_entries book (turn_visit book t).added) {P : Type 0} (stands_for : P → Record → Type 0) (parts : List P) where
   pub alone-visit : IsAlone book t → QuietVisit stands_for book next t parts
-  alone-visit alone =
-      record {
-        added = go_at t ∷ [];
-        whole = added ∙ ap (with_entries book) alone.added_is;
-        visited = visited-alone book.run from book.history t stands turns stands_for parts alone.none;
-      }
+  alone-visit alone = record {
+    added = go_at t ∷ [];
+    whole = added ∙ ap (with_entries book) alone.added_is;
+    visited = visited-alone book.run from book.history t stands turns stands_for parts alone.none;
+  }
 
   pub untold-visit : HasUntold book t → QuietVisit stands_for book next t parts
-  untold-visit untold =
-      record {
-        added = event_at t [];
-        whole = added ∙ ap (with_entries book) untold.added_is;
-        visited = visited-untold book.run from book.history t stands turns stands_for parts untold.is_untold;
-      }
+  untold-visit untold = record {
+    added = event_at t [];
+    whole = added ∙ ap (with_entries book) untold.added_is;
+    visited = visited-untold book.run from book.history t stands turns stands_for parts untold.is_untold;
+  }
+
+-- what a run that has stopped has come to
+pub have-served : {P : Type 0} (stands_for : P → Record → Type 0) (Same : P → P → Type 0) (run : Run) (next : ℕ) (reason : Cause) (H : List Entry) (text : List ℕ) (parts others : List P)
+    → ServesTo stands_for run parts [] others H → AreSame Same parts others → StopsAt run H → (reason ≢ cause.Memory → StandsAt run next H) → (reason ≢ cause.Memory → first_enabled run (after run H) next ≡ None)
+    → (reason ≢ cause.Memory → cause_of run H ≡ Some reason) → (reason ≡ cause.Memory → H ≢ []) → text ≡ (after run H).world.store.text → HaveServed stands_for Same true run reason H text parts others
+have-served {P} stands_for Same run next reason H text parts others serves same stops stands over caused begun printed =
+    let heard : reason ≢ cause.Memory → serves.unheard ≡ None = λ found. unheard-none run next H serves.unheard (stands found) serves.is_unheard in record {
+      to = record {
+        legal = stops.serial.legal;
+        ends = caused;
+        own = stops.own;
+        in_order = λ is. stops.serial;
+        whole = λ is found silent. sym (serial-whole run H (HasRun-whole (stands found).has_run (over found)) ((stands found).silent silent));
+        begun = begun;
+      };
+      text_is = printed;
+      as_many = serves.serves.as_many;
+      unheard = is_of serves.unheard;
+      are_unheard = record { one = serves.unheard; is_unheard = serves.is_unheard; all_heard = heard; unheard_is = λ k. refl };
+      all_heard = λ found k below. ap (λ (unheard : Option ℕ). is_of unheard k) (heard found);
+      each = λ k d h below stood. serves.serves.each k d h below (subst (λ (h : Record). stands_for (slice_index_or parts k d) h) (sym (served-nil h)) stood);
+      same = same;
+    }
 
 -- what follows from either answer
 pub from_either : {X E : Type 0} (r : Result X E) {A B C : Type 0} → OnOk r A → OnErr r B → (A → C) → (B → C) → C

@@ -1,10 +1,9 @@
 -- What the parts of a run are called for: each registered event of its thread, and the first of them also for the start and the
 -- end of the run.
 use Rattle.std.specs.Prelude.{ℕ, ◌≡◌, ◌≢◌, ◌<◌, ◌==◌, if◌then◌else◌, Bool, false, List, ◌++◌, length, slice_index_or, Option}
-use Rattle.team_run.specs.Names.{Call, Snapshot, Reply, Item, item_of, stores_of, Record, initialized, told, mask_of, Cause, Entry, Run}
-use Rattle.team_run.specs.Names.{heard_of, event_reply}
 use Rattle.omp_model.specs.declared.cause.Cause.TheVariants as causes
 use Rattle.tool_api.specs.Record.{finalized}
+use Rattle.team_run.specs.Names.{Call, Snapshot, Reply, Item, item_of, stores_of, Record, initialized, told, mask_of, Cause, Entry, Run, heard_of, event_reply}
 use Rattle.team_run.specs.Unheard.{AreUnheard, IsUnheard, is_of, unheard_if, unheard_on}
 
 -- part k, whatever it stood for before, stands afterwards for what this makes of it

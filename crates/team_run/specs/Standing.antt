@@ -1,7 +1,7 @@
 -- What a serial run under way has come to.
 use Rattle.std.specs.Prelude.{ℕ, ◌≡◌, ◌<◌, ◌≤◌, true, List, [], ◌∷◌, None}
-use Rattle.team_run.specs.Names.{Item, Entry, Run, none_pending, heard_of, after, Serial, StoresNothing}
 use Rattle.omp_model.specs.Running.{HasRun}
+use Rattle.team_run.specs.Names.{Item, Entry, Run, none_pending, heard_of, after, Serial, StoresNothing}
 
 -- nothing was stored during these calls
 abbrev pub AreSilent : List Item → Type 0

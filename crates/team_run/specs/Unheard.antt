@@ -1,9 +1,8 @@
 -- The calls that went unheard: the part of a thread was called for an event, and found no memory. And what that adds to the parts' records.
 use Rattle.std.specs.Prelude.{ℕ, ◌≡◌, ◌≢◌, ◌<◌, ◌==◌, Bool, true, false, IsTrue, if◌then◌else◌, List, [], ◌∷◌, ◌++◌, Option, Some, None}
-use Rattle.team_run.specs.Names.{Call, Snapshot, Record, one_unheard, Cause, Entry, Callback, Run, pending_at, after, none_pending, go_at}
-use Rattle.team_run.specs.Names.{Owes}
 use Rattle.omp_model.specs.declared.cause.Cause.TheVariants as causes
 use Rattle.omp_model.specs.Legal.{is_told}
+use Rattle.team_run.specs.Names.{Call, Snapshot, Record, one_unheard, Cause, Entry, Callback, Run, pending_at, after, none_pending, go_at, Owes}
 
 -- the history ends with this thread's Go, and the thread is inside a callback that is registered: it was called, and has not
 -- returned

@@ -15,11 +15,18 @@
 //! A run under way, which is private, has the book with the entries so far, and the parts of the tool. How the first part is
 //! started and finished is public ([`initialize_first`], [`finalize_first`]): a run by threads does the same.
 //!
-//! Proved by the contracts of [`run_serial`], for every kind of part, over the definitions of `omp_model` and of `specs/`.
-//! They hold of each [`Ran`] that it answers; "the run" is that of the program, the threads and the silent steps that it
-//! was handed, with the mask in the answer. `ran` is a record, which `thread_run` says too of a run by threads:
+//! Proved by the contract of [`run_serial`], for every kind of part, over the definitions of `omp_model` and of `specs/`.
+//! It holds of each [`Ran`] that is answered; "the run" is that of the program, the threads and the silent steps that were
+//! handed in, with the mask in the answer. `ran` is a record (`IsRan`), which `thread_run` says too of a run by threads. What
+//! it says of the history stands in `ran.to` (`RunsTo`):
 //!
-//! - `ran.legal`: the history is legal for the run;
+//! - `ran.to.legal`: the history is legal for the run;
+//! - `ran.to.ends`: the cause is the one in which the history ends;
+//! - `ran.to.own`: nothing is heard on a thread that the run doesn't have. So nothing is heard for which no part was called;
+//! - `ran.to.in_order`: a serial run's history is in the serial order: each Go is of the first enabled thread after the one
+//!   before, and an event's stores and its Back follow its Go directly;
+//! - `ran.to.whole`: where no store took effect, a serial run's history is `serial` of the run, the one list;
+//! - `ran.to.begun`: where the cause is `Memory`, the history has an entry;
 //! - `ran.parts`: part 0 was started once, and the mask is what it then registered, or 0 where it answered 0. It was finished
 //!   once and after all its calls where it answered another number, and else not at all. No other part was started or
 //!   finished. Each part was called for what its thread hears of the history, in order: the position of the event, its
@@ -28,15 +35,9 @@
 //!   [`Memory`](omp_model::Cause::Memory). For nothing else was a part called;
 //! - `ran.same`: each part is the same as before, by a relation of its own; `ran.always`: the mask has callbacks alone that are
 //!   called always;
-//! - `ran.own`: nothing is heard on a thread that the run doesn't have. So nothing is heard for which no part was called;
-//! - `ran.text`: the text is what the program has printed in the state after the history, also where the cause is `Memory`;
-//! - `ran.cause`: the cause is the one in which the history ends;
-//! - `serial`: the history is in the serial order: each Go is of the first enabled thread after the one before, and an event's
-//!   stores and its Back follow its Go directly;
-//! - `whole`: where no store took effect, the history is `serial` of the run, the one list;
-//! - `begun`: where the cause is `Memory`, the history has an entry.
+//! - `ran.text`: the text is what the program has printed in the state after the history, also where the cause is `Memory`.
 //!
-//! `ran.cause` and `whole` say nothing where the cause is `Memory`. The history then stops between two turns, or after
+//! `ran.to.ends` and `ran.to.whole` say nothing where the cause is `Memory`. The history then stops between two turns, or after
 //! the Go of the event whose callback found no memory. What a part "was called for" is said by `stands_for` of
 //! its kind: a part that stood for a record of calls stands afterwards for the record with these calls. So a kind that
 //! stands for everything tells nothing.
@@ -61,5 +62,6 @@ mod serial;
 mod serial_run;
 
 pub use edges::{Start, finalize_first, initialize_first, mask_of};
+pub use omp_machine::Limits;
 pub use ran::{Memory, Ran};
 pub use serial::run_serial;

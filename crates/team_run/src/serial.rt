@@ -1,13 +1,13 @@
 //! The serial run: threads take turns round and round, each a whole turn with its callback.
 
-ghost use Rattle.std.specs.Prelude.{◌≡◌, ◌≢◌, ◌≤◌, [], IfOk, length, true};
-ghost use Rattle.team_run.specs.Names.{Serial, serial};
-ghost use Rattle.team_run.specs.{Program.IsRan, Program.run_of, Standing.HearsSilent};
+ghost use Rattle.std.specs.Prelude.{◌≡◌, IfOk, length, true};
+ghost use Rattle.team_run.specs.Program.{IsRan, run_of};
 
 use crate::edges::{finalize_first, initialize_first, mask_of};
 use crate::ran::{Memory, Ran};
 use crate::serial_run::SerialRun;
 use c_check::Program;
+use omp_machine::Limits;
 use omp_model::Cause;
 use std::alloc::{AllocError, Global};
 use step_book::{Book, Closed};
@@ -25,28 +25,17 @@ use tool_api::ToolPart;
 pub fn run_serial<P: ToolPart>(
     alloc: Global,
     program: Program,
-    threads: u8,
-    steps: u32,
+    limits: Limits,
     parts: Vec<P>,
 ) -> Result<Ran<P>, Memory>
-    requires some { 1 ≤ threads }
-    requires few { threads ≤ 16 }
-    requires steps { 1 ≤ steps }
-    requires bounded { steps ≤ 30000000 }
-    requires parts { length parts.items ≡ threads }
+    requires { length parts.items ≡ limits.threads }
     ensures ran { IfOk result (λ ran.
-        IsRan P.stands_for P.same true (run_of program threads steps ran) parts.items ran) }
-    ensures serial { IfOk result (λ ran. Serial (run_of program threads steps ran) ran.history) }
-    // Where memory didn't fail and no store took effect it is the one list.
-    ensures whole { IfOk result (λ ran. ran.cause ≢ Cause.Memory →
-        HearsSilent (run_of program threads steps ran) ran.history →
-        ran.history ≡ serial (run_of program threads steps ran)) }
-    ensures begun { IfOk result (λ ran. ran.cause ≡ Cause.Memory → ran.history ≢ []) }
+        IsRan P.stands_for P.same true (run_of program limits.threads limits.steps ran) parts.items ran) }
 {
     let mut parts = parts;
     let start = initialize_first(&mut parts);
     let mask = mask_of(start);
-    let book = Book::start(alloc, program, mask, threads, steps)?;
+    let book = Book::start(alloc, program, mask, limits)?;
     let mut run = SerialRun {
         book,
         parts,
@@ -56,18 +45,13 @@ pub fn run_serial<P: ToolPart>(
     if cause == Cause::Memory && run.book.entries().is_empty() {
         return Err(AllocError);
     }
-    let SerialRun {
-        book,
-        mut parts,
-        ..
-    } = run;
-    finalize_first(start, &mut parts);
-    let Closed { history, text, .. } = book.close();
+    finalize_first(start, &mut run.parts);
+    let Closed { history, text, .. } = run.book.close();
     Ok(Ran {
         cause,
         mask,
         history,
         text,
-        parts,
+        parts: run.parts,
     })
 }

@@ -29,10 +29,10 @@ impl<P: ToolPart> SerialRun<P> {
         requires stands { StandsAt self.old.book.run self.old.next self.old.book.history }
         requires parts { length self.old.parts.items ≡ self.old.book.run.threads }
         ensures run { self.new.book.run ≡ self.old.book.run }
-        ensures serves { ServesTo P.stands_for self.old.book.run self.old.parts.items self.old.book.history
+        ensures serves { ServesTo P.stands_for self.new.book.run self.old.parts.items self.old.book.history
             self.new.parts.items self.new.book.history }
         ensures same { AreSame P.same self.old.parts.items self.new.parts.items }
-        ensures stops { StopsAt self.old.book.run self.new.book.history }
+        ensures stops { StopsAt self.new.book.run self.new.book.history }
         ensures stands { result ≢ Cause.Memory → StandsAt self.new.book.run self.new.next self.new.book.history }
         ensures over { result ≢ Cause.Memory →
             first_enabled self.new.book.run (state_of self.new.book) self.new.next ≡ None }
@@ -57,10 +57,10 @@ impl<P: ToolPart> SerialRun<P> {
         requires arrival { ready.arrival ≡ arrival (state_of self.old.book).world ready.thread }
         requires parts { length self.old.parts.items ≡ self.old.book.run.threads }
         ensures run { self.new.book.run ≡ self.old.book.run }
-        ensures serves { ServesTo P.stands_for self.old.book.run self.old.parts.items self.old.book.history
+        ensures serves { ServesTo P.stands_for self.new.book.run self.old.parts.items self.old.book.history
             self.new.parts.items self.new.book.history }
         ensures same { AreSame P.same self.old.parts.items self.new.parts.items }
-        ensures stops { StopsAt self.old.book.run self.new.book.history }
+        ensures stops { StopsAt self.new.book.run self.new.book.history }
         ensures stands { OnOk result (StandsAt self.new.book.run self.new.next self.new.book.history) }
         ensures turns { OnOk result ((state_of self.new.book).turns ≡ (state_of self.old.book).turns + 1) }
     {

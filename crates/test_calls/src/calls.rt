@@ -1,8 +1,8 @@
 //! A line and the inquiries, against values written out by hand. The listing of a region of two has the other lines.
 
 use ompt_calls::{
-    Argument, Call, CodePlace, Frame, Memory, RegionLevel, RegionLevels, Reply, Snapshot, Store,
-    Target, TaskLevel, TaskLevels, Word, WordAt, line_of,
+    Argument, Call, CodePlace, Frame, Memory, RegionLevel, Reply, Sequence, Snapshot, Store,
+    Target, TaskLevel, Word, WordAt, line_of,
 };
 use std::alloc::Global;
 
@@ -129,8 +129,8 @@ pub(crate) fn snapshot_of_two(alloc: Global) -> Result<Snapshot, Memory> {
         thread: ONE,
         state: 0x001,
         wait_id: 0,
-        tasks: TaskLevels(tasks),
-        regions: RegionLevels(regions),
+        tasks: Sequence(tasks),
+        regions: Sequence(regions),
         fresh: None,
     })
 }

@@ -5,7 +5,7 @@ ghost use Rattle.std.specs.Prelude.{⊤};
 use crate::calls::snapshot_of_two;
 use ompt_calls::{Call, Reply, Snapshot, Store, Target, Word, WordAt};
 use std::alloc::{AllocError, Global};
-use tool_api::{Memory, Registrar, ToolPart};
+use tool_api::{Memory, Registrar, Response, ToolPart};
 use tool_both::{Both, Masks};
 
 /// How a tool behaves.
@@ -45,13 +45,7 @@ impl ToolPart for Hearer {
         self.habits.answer
     }
 
-    fn callback(
-        &mut self,
-        seq: u32,
-        _thread: u8,
-        _call: &Call,
-        _snapshot: &Snapshot,
-    ) -> Result<Reply, Memory> {
+    fn callback(&mut self, seq: u32, _thread: u8, _call: &Call, _snapshot: &Snapshot) -> Response {
         if self.habits.lost == Some(seq) {
             return Err(AllocError);
         }

@@ -82,7 +82,7 @@ fn ran<R: Threads + Wait + Sync>(
 /// How many entries the history of a run has, if something ran.
 fn entries_of(ran: &Option<Report>) -> Option<usize> {
     match ran {
-        Some(report) => Some(report.history.entries().len()),
+        Some(report) => Some(report.history.as_slice().len()),
         None => None,
     }
 }

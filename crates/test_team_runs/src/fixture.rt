@@ -7,7 +7,7 @@ use c_syntax::read_program;
 use c_tokens::tokens;
 use ompt_calls::Word;
 use std::alloc::{AllocError, Global};
-use team_run::{Memory, Ran, run_serial};
+use team_run::{Limits, Memory, Ran, run_serial};
 use tool_api::ToolPart;
 
 /// A region of two.
@@ -60,6 +60,9 @@ pub(crate) fn run_with<P: ToolPart>(
     requires few { length parts.items ≤ 16 }
 {
     let program = program_of(alloc, text)?;
-    let threads = parts.len() as u8;
-    run_serial(alloc, program, threads, 1_000_000, parts)
+    let limits = Limits {
+        threads: parts.len() as u8,
+        steps: 1_000_000,
+    };
+    run_serial(alloc, program, limits, parts)
 }

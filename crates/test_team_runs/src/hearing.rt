@@ -1,7 +1,7 @@
 //! Telling a part of events that no run has.
 
 use crate::fixture::ONE;
-use ompt_calls::{Call, RegionLevels, Reply, Snapshot, TaskLevels};
+use ompt_calls::{Call, Reply, Sequence, Snapshot};
 use std::alloc::Global;
 use std::process::Abort;
 use tool_api::ToolPart;
@@ -31,8 +31,8 @@ fn snapshot_in(alloc: Global, state: u16) -> Snapshot {
         thread: ONE,
         state,
         wait_id: 3,
-        tasks: TaskLevels(Vec::new(alloc)),
-        regions: RegionLevels(Vec::new(alloc)),
+        tasks: Sequence(Vec::new(alloc)),
+        regions: Sequence(Vec::new(alloc)),
         fresh: None,
     }
 }

@@ -164,7 +164,7 @@ fn a_reply_stores_thrice(rt: HostRuntime) -> Result<(), Memory> {
     let ran = run_with_stores(rt.alloc())?;
     assert!(rt; ran.cause == Cause::Done);
     let stored = STORED.map(|what| Entry { thread: 0, what });
-    assert!(rt; ran.history.entries().get(6..14) == Some(stored.as_slice()));
+    assert!(rt; ran.history.as_slice().get(6..14) == Some(stored.as_slice()));
     let [part] = ran.parts.as_slice() else {
         panic!(rt; "there is one part");
     };

@@ -98,6 +98,6 @@ fn a_run_without_a_tool_prints(rt: HostRuntime) -> Result<(), Memory> {
     let ran = run_with(rt.alloc(), text, parts)?;
     assert!(rt; ran.cause == Cause::Returned(3));
     assert!(rt; ran.text.as_slice() == b"42\n".as_slice());
-    assert_eq!(rt; ran.history.entries().len(), 8);
+    assert_eq!(rt; ran.history.as_slice().len(), 8);
     Ok(())
 }

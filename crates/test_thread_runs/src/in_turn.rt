@@ -6,7 +6,7 @@ ghost use Rattle.step_book.specs.Sharing.{book_after};
 
 use crate::fixture::{STEPS, are_in_order, program_of};
 use omp_codes::callbacks::PARALLEL_BEGIN;
-use omp_machine::Memory;
+use omp_machine::{Limits, Memory};
 use omp_model::{Entry, What};
 use ompt_calls::{Call, Frame, Reply, Word};
 use std::alloc::Global;
@@ -58,10 +58,14 @@ const ENTRIES: [(u8, What); 8] = [
 #[test]
 fn passes_in_turn(rt: HostRuntime) -> Result<(), Fail> {
     let program = program_of(&rt, rt.alloc(), REGION_OF_TWO)?;
-    let blank = Blank::new(rt.alloc(), program, 1 << PARALLEL_BEGIN, 2, STEPS)?;
+    let limits = Limits {
+        threads: 2,
+        steps: STEPS,
+    };
+    let blank = Blank::new(rt.alloc(), program, 1 << PARALLEL_BEGIN, limits)?;
     let closed = closed_in_turn::<HostRuntime, Brand>(&rt, rt.alloc(), blank)?;
     assert!(rt; closed.cause.is_none());
-    are_in_turn(&rt, closed.history.entries());
+    are_in_turn(&rt, closed.history.as_slice());
     Ok(())
 }
 

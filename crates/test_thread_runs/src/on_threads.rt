@@ -5,7 +5,7 @@ ghost use Rattle.std.specs.Prelude.{◌≡◌, IfOk, length};
 use crate::fixture::{STEPS, program_of};
 use crate::replay::replay;
 use omp_codes::PROFILE_MASK;
-use omp_machine::Machine;
+use omp_machine::{Limits, Machine};
 use omp_model::Cause;
 use ompt_calls::EventRecord;
 use std::alloc::{AllocError, Global};
@@ -45,8 +45,11 @@ int main(void) {
 /// What it prints, in whatever order the tasks and the iterations come.
 const PRINTED: &[u8] = b"40\n";
 
-/// How many threads there are.
-const THREADS: u8 = 4;
+/// How many threads and silent steps there may be.
+const LIMITS: Limits = Limits {
+    threads: 4,
+    steps: STEPS,
+};
 
 /// How often the program is run.
 const ROUNDS: u32 = 100;
@@ -68,7 +71,7 @@ fn run_on_threads<R: Threads + Wait + Sync + Abort>(
 ) -> Result<Ran<Lister>, Fail> {
     let program = program_of(rt, alloc, TASKS_AND_A_LOOP)?;
     let listers = four_listers(alloc)?;
-    Ok(run_threads(rt, alloc, program, THREADS, STEPS, listers)?)
+    Ok(run_threads(rt, alloc, program, LIMITS, listers)?)
 }
 
 /// A lister for each thread, which has heard nothing.
@@ -93,7 +96,7 @@ fn is_replayed(rt: &impl Abort, alloc: Global, ran: &Ran<Lister>) -> Result<(), 
 /// A machine of the program before the first entry.
 fn new_machine(rt: &impl Abort, alloc: Global) -> Result<Machine, Fail> {
     let program = program_of(rt, alloc, TASKS_AND_A_LOOP)?;
-    Ok(Machine::new(alloc, program, PROFILE_MASK, THREADS, STEPS)?)
+    Ok(Machine::new(alloc, program, PROFILE_MASK, LIMITS)?)
 }
 
 /// The machine goes through the history of the run.
@@ -103,7 +106,7 @@ fn goes_through(
     machine: &mut Machine,
     ran: &Ran<Lister>,
 ) -> Result<(), Fail> {
-    let told = replay(rt, alloc, machine, ran.history.entries())?;
+    let told = replay(rt, alloc, machine, ran.history.as_slice())?;
     are_done(rt, ran, machine);
     have_heard(rt, &ran.parts, &told);
     Ok(())
@@ -119,7 +122,7 @@ fn are_done(rt: &impl Abort, ran: &Ran<Lister>, machine: &Machine) {
 
 /// Each lister has heard the events of its thread among those that were told.
 fn have_heard(rt: &impl Abort, listers: &[Lister], told: &[EventRecord]) {
-    assert!(rt; listers.len() == usize::from(THREADS));
+    assert!(rt; listers.len() == usize::from(LIMITS.threads));
     for (thread, lister) in listers.iter().enumerate() {
         has_heard(rt, thread, lister.events(), told);
     }

@@ -166,7 +166,7 @@ fn went(rt: &impl Abort, ran: &Ran, beside: &Beside) {
     assert!(rt; ran.command == Command::Run(RunOutput::Profile));
     assert!(rt; ran.cause == beside.cause);
     assert!(rt; ran.mask == beside.mask);
-    assert!(rt; ran.history.entries().len() == beside.entries);
+    assert!(rt; ran.history.as_slice().len() == beside.entries);
     assert!(rt; stores_in(ran) == beside.stores);
     has_entries(rt, &ran.history, beside.some);
     heard(rt, ran, &[beside.counts]);

@@ -233,7 +233,7 @@ pub(crate) fn text_of<'a>(rt: &impl Abort, bytes: &'a [u8]) -> &'a str {
 /// The history has these entries at these positions.
 pub(crate) fn has_entries(rt: &impl Abort, history: &History, expected: &[(usize, u8, What)]) {
     for &(position, thread, what) in expected {
-        let found = history.entries().get(position);
+        let found = history.as_slice().get(position);
         assert!(rt; found == Some(&Entry { thread, what }), "at {position}");
     }
 }

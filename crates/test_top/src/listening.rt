@@ -5,11 +5,11 @@
 
 use omp_codes::{PROFILE, PROFILE_MASK, endpoints};
 use ompt_calls::{
-    Call, Frame, RegionLevel, RegionLevels, Reply, Snapshot, Store, TaskLevel, TaskLevels, Word,
-    WordAt, is_registered,
+    Call, Frame, RegionLevel, Reply, Sequence, Snapshot, Store, TaskLevel, Word, WordAt,
+    is_registered,
 };
 use std::alloc::{AllocError, Global};
-use tool_api::{GuestTool, Memory, Registrar};
+use tool_api::{GuestTool, Memory, Registrar, Response};
 
 /// From this position on a call is a question, whether it was heard at the position that is so much less.
 const QUESTIONS: u32 = 1_000_000;
@@ -109,13 +109,7 @@ impl Listening {
     }
 
     /// Keeps a call, or answers a question.
-    fn hear(
-        &mut self,
-        seq: u32,
-        thread: u8,
-        call: &Call,
-        snapshot: &Snapshot,
-    ) -> Result<Reply, Memory> {
+    fn hear(&mut self, seq: u32, thread: u8, call: &Call, snapshot: &Snapshot) -> Response {
         if seq >= QUESTIONS {
             return Ok(reply_of(self.answer_to(seq, thread, call)));
         }
@@ -183,13 +177,7 @@ impl GuestTool for Listening {
         self.habits.answer
     }
 
-    fn callback(
-        &mut self,
-        seq: u32,
-        thread: u8,
-        call: &Call,
-        snapshot: &Snapshot,
-    ) -> Result<Reply, Memory> {
+    fn callback(&mut self, seq: u32, thread: u8, call: &Call, snapshot: &Snapshot) -> Response {
         self.hear(seq, thread, call, snapshot)
     }
 
@@ -326,8 +314,8 @@ fn inside(alloc: Global) -> Result<Snapshot, Memory> {
         thread: ONE,
         state: 0x001,
         wait_id: 0,
-        tasks: TaskLevels(Vec::from_array(alloc, [MEMBER, INITIAL])?),
-        regions: RegionLevels(Vec::from_array(alloc, [region_of(STORED), region_of(ONE)])?),
+        tasks: Sequence(Vec::from_array(alloc, [MEMBER, INITIAL])?),
+        regions: Sequence(Vec::from_array(alloc, [region_of(STORED), region_of(ONE)])?),
         fresh: None,
     })
 }

@@ -146,7 +146,7 @@ fn went(rt: &impl Abort, ran: &Ran, case: &Case) {
     assert!(rt; ran.command == case.command);
     assert!(rt; ran.cause == case.cause);
     assert!(rt; ran.mask == case.mask);
-    assert!(rt; ran.history.entries().len() == case.entries);
+    assert!(rt; ran.history.as_slice().len() == case.entries);
     assert!(rt; stores_in(ran) == 0);
     has_entries(rt, &ran.history, case.some);
     heard(rt, ran, case.heard);
@@ -154,7 +154,7 @@ fn went(rt: &impl Abort, ran: &Ran, case: &Case) {
 
 /// How many stores there are in the history.
 pub(crate) fn stores_in(ran: &Ran) -> usize {
-    let entries = ran.history.entries().iter();
+    let entries = ran.history.as_slice().iter();
     entries
         .filter(|entry| matches!(entry.what, What::Put(..)))
         .count()
@@ -230,7 +230,7 @@ fn has_stored(rt: &impl Abort, told: &Told) {
     assert!(rt; told.is_done());
     let ran = ran_in(rt, told);
     assert!(rt; ran.mask == 0x88);
-    assert!(rt; ran.history.entries().len() == 25);
+    assert!(rt; ran.history.as_slice().len() == 25);
     assert!(rt; stores_in(ran) == 1);
     has_entries(
         rt,
@@ -266,6 +266,6 @@ fn a_run_meets_its_limit(rt: HostRuntime) -> Result<(), Fail> {
 /// The run ended at its limit, in its third turn.
 fn has_met_its_limit(rt: &impl Abort, ran: &Ran) {
     assert!(rt; ran.cause == Cause::Limit(1));
-    assert!(rt; ran.history.entries().len() == 5);
+    assert!(rt; ran.history.as_slice().len() == 5);
     heard(rt, ran, &[[2, 1, 1]]);
 }

@@ -55,7 +55,7 @@ fn has_eight_entries(rt: &impl Abort, told: &Told, threads: u8) {
     assert!(rt; ran.cause == Cause::Done);
     assert!(rt; ran.mask == PROFILE_MASK);
     assert!(rt; ran.threads == threads);
-    assert!(rt; ran.history.entries() == HISTORY.as_slice());
+    assert!(rt; ran.history.as_slice() == HISTORY.as_slice());
 }
 
 /// A source of the empty program that fails at its first call.
@@ -169,6 +169,6 @@ return 0;
 fn two_regions_of_two_keep_their_worker(rt: HostRuntime) -> Result<(), Fail> {
     let told = tell_text(&rt, LIST_ON_TWO, TWO_REGIONS_OF_TWO)?;
     let ran = ran_in(&rt, &told);
-    assert!(rt; ran.history.entries().len() == 69);
+    assert!(rt; ran.history.as_slice().len() == 69);
     Ok(())
 }

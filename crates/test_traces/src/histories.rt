@@ -5,10 +5,10 @@ ghost use Rattle.omp_model.specs.declared.history.What.TheVariants.{Put};
 ghost use Rattle.history_file.specs.Fitting.{HasThread};
 
 use history_file::{
-    FileText, HISTORY_LIMIT, HistoryFault, HistoryFile, HistoryReason, read_history, write_history,
+    HISTORY_LIMIT, HistoryFault, HistoryFile, HistoryReason, read_history, write_history,
 };
-use omp_model::{Entry, History, What};
-use ompt_calls::Target;
+use omp_model::{Entry, What};
+use ompt_calls::{Sequence, Target};
 use run_edges::{MemSink, WriteFault};
 use std::alloc::{AllocError, Global};
 use std::test::Fail;
@@ -29,8 +29,8 @@ fn file_of(alloc: Global, text: &[u8], entries: &[Entry]) -> Result<HistoryFile,
         threads: 1,
         mask: 0,
         steps: 1_000_000,
-        text: FileText(Vec::from_slice(alloc, text)?),
-        history: History(Vec::from_slice(alloc, entries)?),
+        text: Sequence(Vec::from_slice(alloc, text)?),
+        history: Sequence(Vec::from_slice(alloc, entries)?),
         status: 0,
         detail: 0,
     })
@@ -124,8 +124,8 @@ fn reads_the_smallest_run(rt: HostRuntime) -> Result<(), Fail> {
     let file = read_history(rt.alloc(), BYTES)?;
     assert_eq!(rt; file.threads, 1);
     assert_eq!(rt; file.steps, 1_000_000);
-    assert_eq!(rt; file.text.bytes(), TEXT);
-    assert_eq!(rt; file.history.entries().len(), 8);
+    assert_eq!(rt; file.text.as_slice(), TEXT);
+    assert_eq!(rt; file.history.as_slice().len(), 8);
     Ok(())
 }
 

@@ -2,9 +2,9 @@
 
 use omp_codes::thread_states::{OVERHEAD, WORK_SERIAL};
 use omp_codes::{endpoints, task_flags, thread_kinds};
-use ompt_calls::{Call, EventRecord, Word};
+use ompt_calls::{Call, EventRecord, Sequence, Word};
 use std::alloc::{AllocError, Global};
-use trace_format::{EndMark, Events, Header, RECORDED, Trace, VERSION};
+use trace_format::{EndMark, Header, RECORDED, Trace, VERSION};
 
 /// How many bytes it has.
 pub(crate) const LENGTH: usize = 182;
@@ -105,7 +105,7 @@ pub(crate) const END: EndMark = EndMark {
 pub(crate) fn smallest(alloc: Global) -> Result<Trace, AllocError> {
     Ok(Trace {
         header: HEADER,
-        events: Events(events().to_vec(alloc)?),
+        events: Sequence(events().to_vec(alloc)?),
         end: END,
     })
 }

@@ -3,9 +3,9 @@
 use omp_codes::mutex_kinds::CRITICAL;
 use omp_codes::thread_states::OVERHEAD;
 use omp_codes::{task_flags, thread_kinds};
-use ompt_calls::{Call, EventRecord, Frame, Word};
+use ompt_calls::{Call, EventRecord, Frame, Sequence, Word};
 use std::alloc::{AllocError, Global};
-use trace_format::{EndMark, Events, Header, RECORDED, Trace, VERSION};
+use trace_format::{EndMark, Header, RECORDED, Trace, VERSION};
 
 /// The data word of the thread, of the task or of the region with this number.
 fn word(identity: u32) -> Word {
@@ -96,7 +96,7 @@ pub(crate) fn trace(alloc: Global) -> Result<Trace, AllocError> {
             origin: RECORDED,
             mask: omp_codes::PROFILE_MASK,
         },
-        events: Events(events.to_vec(alloc)?),
+        events: Sequence(events.to_vec(alloc)?),
         end: EndMark {
             status: 0,
             detail: 0,

@@ -1,27 +1,14 @@
 -- The drivers of a run: as they are started, and once all have come back.
-use Rattle.std.proofs.Common.{◌≡◌, ◌≢◌, ℕ, zero, suc, ◌+◌, ◌<◌, ◌≤◌, Bool, true, false, if◌then◌else◌, List, [], ◌∷◌, ◌++◌, length, length-append, replicate, get_or, slice_index_or, slice_set, drop, Option, Some, None, IfSome, refl, sym, ap, subst, ◌∙◌, append_assoc, inl, inr, ◌⊎◌, arith}
-use Rattle.std.proofs.lemmas.Bool.{true≢false, cases_eq, cases_lt, or_left, or_right}
-use Rattle.std.proofs.lemmas.List.{drop_more, get_or_append_left, get_or_at, get_or_default, get_or_past, get_or_push}
-use Rattle.std.proofs.lemmas.List.{get_or-replicate, get_or-set_same, get_or-set_other, length-drop, length-replicate}
-use Rattle.team_run.specs.Names.{Record, Cause, Callback, Entry, Run, first, pending_at, cause_of, heard_of, after}
-use Rattle.team_run.specs.Names.{Closed, NotBy, entries_of, PassView}
+use Rattle.std.proofs.Common.{◌≡◌, ◌≢◌, ℕ, zero, suc, ◌+◌, ◌<◌, ◌≤◌, Bool, true, false, if◌then◌else◌, List, [], ◌∷◌, ◌++◌, length, length-append, get_or, slice_set, drop, Option, Some, None, refl, sym, ap, subst, ◌∙◌, append_assoc, inl, inr, ◌⊎◌, arith}
+use Rattle.std.proofs.lemmas.Bool.{true≢false, false_from_ne_true, cases_eq, cases_lt, or_left, or_right}
+use Rattle.std.proofs.lemmas.List.{drop_more, get_or_append_left, get_or_at, get_or_default, get_or_push, get_or-set_same, get_or-set_other, length-drop}
 use Rattle.omp_model.specs.declared.cause.Cause.TheVariants as causes
-use Rattle.step_book.specs.{Rule.NoneBy, Sharing.AreOwn, Sharing.IsClosed, Sharing.any_ended, Sharing.fresh_pass}
-use Rattle.step_book.proofs.Others.{entries-append, holds-others, own-back}
-use Rattle.thread_run.specs.Driving.{IsDriven}
-use Rattle.thread_run.specs.Drivers.{AreDrivers, AreFor, AreKept, HaveServed, IsDriver}
+use Rattle.omp_model.proofs.MadeRuns.{at-replicate}
+use Rattle.step_book.{specs.Rule.NoneBy, specs.Sharing.AreOwn, specs.Sharing.IsClosed, specs.Sharing.any_ended, specs.Sharing.fresh_pass, proofs.Others.entries-append, proofs.Others.holds-others, proofs.Others.own-back}
+use Rattle.team_run.specs.Names.{Record, Cause, Callback, Entry, Run, first, pending_at, cause_of, heard_of, after, Closed, NotBy, entries_of, PassView}
 use Rattle.team_run.{specs.Serving.called_for, specs.Unheard.LeftAt, specs.Standing.HearsOwn, proofs.Serving.served-nil}
-use Rattle.thread_run.proofs.Driving.{heard-others, left-others}
-
-abbrev nobody : Option Callback
-nobody = None
-
--- at first no thread is inside a callback
-outside-first : (n t : ℕ) → slice_index_or (replicate n nobody) t nobody ≡ nobody
-outside-first n t = elim (cases_lt t n) [
-  | inl below ↦ get_or-replicate n t nobody nobody below
-  | inr past ↦ get_or_past (replicate n nobody) t nobody (omega (arith, past, length-replicate n nobody))
-]
+use Rattle.thread_run.specs.Drivers.{AreDrivers, AreFor, AreKept, HasServed, IsDriver}
+use Rattle.thread_run.{specs.Driving.IsDriven, proofs.Driving.heard-others, proofs.Driving.left-others}
 
 -- A list that a loop has gone through up to one of its items.
 module _ {L : Type 0} (all yielded behind rest : List L) (one : L) (whole : yielded ++ behind ≡ all) (next : behind ≡ one ∷ rest) where
@@ -35,8 +22,7 @@ module _ {L : Type 0} (all yielded behind rest : List L) (one : L) (whole : yiel
   item-below = omega (arith, ap (λ (all : List L). length all) (sym whole ∙ ap (λ more. yielded ++ more) next), length-append yielded (one ∷ rest))
 
   -- one more has come back
-  pub finish-more :
-      {P : Type 0} (stands_for : P → Record → Type 0) (Same : P → P → Type 0) (run : Run) (is : ℕ → P → L → Type 0) (first : List P) (passes : List PassView) (parts : List P) (pass : PassView) (part : P)
+  pub finish-more : {P : Type 0} (stands_for : P → Record → Type 0) (Same : P → P → Type 0) (run : Run) (is : ℕ → P → L → Type 0) (first : List P) (passes : List PassView) (parts : List P) (pass : PassView) (part : P)
       → length passes ≡ length yielded → length parts ≡ length yielded → AreFor is first all → AreDrivers stands_for Same run first passes parts
       → ((t : ℕ) (whose : P) → is t whose one → IsDriver stands_for Same run t whose pass part) → AreDrivers stands_for Same run first (passes ++ pass ∷ []) (parts ++ part ∷ [])
   finish-more stands_for Same run is first passes parts pass part passed parted are there goes k d e f below = elim (cases_eq k (length yielded)) [
@@ -51,7 +37,7 @@ module _ {P : Type 0} (stands_for : P → Record → Type 0) (Same : P → P →
   -- a driver before its first visit
   driver-first : ((part : P) → Same part part) → (t : ℕ) (first_part part : P) (pass : PassView) → pass ≡ fresh_pass t → part ≡ first_part → IsDriver stands_for Same run t first_part pass part
   driver-first itself t first_part part pass fresh same =
-      let outside : pending_at (first run) t ≡ None = outside-first run.threads t in
+      let outside : pending_at (first run) t ≡ None = at-replicate (λ (callback : Option Callback). callback ≡ None) run.threads t None refl in
       let driven : IsDriven stands_for Same run first_part (fresh_pass t) first_part = record {
         unheard = false;
         left = outside;
@@ -103,11 +89,10 @@ hears-own run passes history closed k past =
     let others : NoneBy k closed.all = λ i d less same. let below = closed.below i d less in omega (arith, below, same, past) in
     ap (λ history. heard_of run history k) closed.entries ∙ heard-others run [] (entries_of closed.all) k (holds-others k closed.all closed.own others)
 
--- the cause where no pass has ended the run for want of memory
-cause-known : (ended : Bool) (cause found : Option Cause) → cause ≡ (if ended then Some causes.Memory else found) → IfSome cause (λ cause. cause ≢ causes.Memory → found ≡ Some cause)
-cause-known ended None found is = tt
-cause-known true (Some cause) found is = λ other. let same : cause ≡ causes.Memory = cc in absurd (other same)
-cause-known false (Some cause) found is = λ other. sym is
+-- the cause that is known is the history's, where no pass has ended the run for want of memory
+cause-known : (ended : Bool) (cause : Cause) (found : Option Cause) → Some cause ≡ (if ended then Some causes.Memory else found) → cause ≢ causes.Memory → found ≡ Some cause
+cause-known true cause found is other = let same : cause ≡ causes.Memory = cc in absurd (other same)
+cause-known false cause found is other = sym is
 
 any-at : (passes : List PassView) (k : ℕ) (d : PassView) → k < length passes → (get_or passes k d).ended ≡ true → any_ended passes ≡ true
 any-at [] k d below ended = absurd (omega arith)
@@ -133,8 +118,7 @@ module _ {P : Type 0} (stands_for : P → Record → Type 0) (Same : P → P →
   beyond : (k : ℕ) → k < run.threads → Beyond k
   beyond k below =
       let begins = is_closed.begins k none below in
-      let seen = (get_or passes k none).seen in
-      record {
+      let seen = (get_or passes k none).seen in record {
         more = entries_of begins.rest;
         whole = is_closed.entries ∙ ap entries_of begins.whole ∙ entries-append seen begins.rest;
         not_by = holds-others k begins.rest (own-back seen begins.rest (subst AreOwn begins.whole is_closed.own)) begins.others;
@@ -152,11 +136,7 @@ module _ {P : Type 0} (stands_for : P → Record → Type 0) (Same : P → P →
   left-by k (inr past) less = absurd (omega arith)
 
   heard-by : (k : ℕ) (c : (k < run.threads) ⊎ (run.threads ≤ k)) → closed.cause ≢ Some causes.Memory → k < run.threads → unheard-by k c ≡ false
-  heard-by k (inl below) other less = by (driver k below).driven.unheard (driver k below).driven.over
-    where
-      by : (unheard : Bool) → (unheard ≡ true → (get_or passes k none).ended ≡ true) → unheard ≡ false
-      by true over = absurd (other (cause_is ∙ rw (any-at passes k none (omega (arith, below, passed)) (over refl)) refl))
-      by false over = refl
+  heard-by k (inl below) other less = false_from_ne_true (driver k below).driven.unheard (λ unheard. other (cause_is ∙ rw (any-at passes k none (omega (arith, below, passed)) ((driver k below).driven.over unheard)) refl))
   heard-by k (inr past) other less = absurd (omega arith)
 
   each-by : (k : ℕ) (c : (k < run.threads) ⊎ (run.threads ≤ k)) (d : P) (h : Record) → k < length parts → stands_for (get_or parts k d) h → stands_for (get_or others k d) (called_for (heard_of run closed.history k) (unheard-by k c) h)
@@ -169,24 +149,30 @@ module _ {P : Type 0} (stands_for : P → Record → Type 0) (Same : P → P →
       subst (λ part. stands_for part (called_for (heard_of run closed.history k) one.driven.unheard h)) (get_or_default others k p d (omega (arith, below, back))) (rw same hears)
   each-by k (inr past) d h less stands = absurd (omega arith)
 
-  pub have-served : HaveServed stands_for Same run closed parts others
-  have-served = record {
-    legal = is_closed.legal;
-    own = hears-own run passes closed.history is_closed;
-    text = text;
-    known = cause-known (any_ended passes) closed.cause (cause_of run closed.history) cause_is;
-    as_many = back ∙ sym count;
-    unheard = λ k. unheard-by k (cases_lt k run.threads);
-    left = λ k below. left-by k (cases_lt k run.threads) below;
-    all_heard = λ other k below. heard-by k (cases_lt k run.threads) other below;
-    each = λ k d h below stands. each-by k (cases_lt k run.threads) d h below stands;
-    same =
-        record {
+  pub have-served : HasServed stands_for Same run closed parts others
+  have-served cause known begun =
+      let other : cause ≢ causes.Memory → closed.cause ≢ Some causes.Memory = λ found is. let same : Some cause ≡ Some causes.Memory = sym (known found) ∙ is in found cc in
+      record {
+        to = record {
+          legal = is_closed.legal;
+          ends = λ found. cause-known (any_ended passes) cause (cause_of run closed.history) (sym (known found) ∙ cause_is) found;
+          own = hears-own run passes closed.history is_closed;
+          in_order = λ is. absurd cc;
+          whole = λ is. absurd cc;
+          begun = begun;
+        };
+        text_is = text;
+        as_many = back ∙ sym count;
+        unheard = λ k. unheard-by k (cases_lt k run.threads);
+        are_unheard = λ k below. left-by k (cases_lt k run.threads) below;
+        all_heard = λ found k below. heard-by k (cases_lt k run.threads) (other found) below;
+        each = λ k d h below stands. each-by k (cases_lt k run.threads) d h below stands;
+        same = record {
           each = λ k d below.
               subst (λ part. Same (get_or parts k d) part) (sym (get_or_default others k d p (omega (arith, below, count, back))))
               (subst (λ part. Same part (get_or others k p)) (sym (get_or_default parts k d p below)) (driver k (omega (arith, below, count))).driven.same_is);
         };
-  }
+      }
 
 -- what is so of each is so of each that was kept
 pub for-kept : {P L : Type 0} (is : ℕ → P → L → Type 0) (parts : List P) (slots others : List L) → length others ≡ length slots → AreFor is parts slots → AreKept is slots others → AreFor is parts others

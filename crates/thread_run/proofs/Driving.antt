@@ -1,26 +1,17 @@
 -- What a driver's part was called for, after each call of its pass.
 use Rattle.std.proofs.Common.{◌≡◌, ℕ, ◌+◌, ◌<◌, Bool, true, false, if◌then◌else◌, List, [], ◌∷◌, ◌++◌, length, Option, Some, None, Result, Ok, Err, IfOk, OnErr, slice_index_or, slice_set, get_or-set_same, refl, sym, ap, subst, ◌∙◌, append_assoc, append-nil, inl, inr, arith}
-use Rattle.std.specs.Result.{IsOk}
-use Rattle.std.proofs.lemmas.{Bool.true≢false, Bool.cases_lt, List.get_or_past, List.length-set, List.length-replicate}
-use Rattle.team_run.specs.Names.{Call, Reply, Snapshot, Item, item_of, is_registered, Stored, stores_of, Record}
-use Rattle.team_run.specs.Names.{one_unheard, told, Cause, Callback, Event, Entry, Run, State, first, pending_at}
-use Rattle.team_run.specs.Names.{call_of, callback_of, heard_of, Legal, after, after_from, back, back_from, entered}
-use Rattle.team_run.specs.Names.{inside_after, snap_of, event_reply, go_at, turn, Step, Told, NotBy, Owes, BookView}
-use Rattle.team_run.specs.Names.{state_of, entries_of, AddsHold, PassView, book_after, turn_visit}
+use Rattle.std.{specs.Result.IsOk, proofs.lemmas.Bool.true≢false, proofs.lemmas.Bool.false_from_ne_true, proofs.lemmas.Bool.cases_lt, proofs.lemmas.List.get_or_past, proofs.lemmas.List.length-set, proofs.lemmas.List.length-replicate}
 use Rattle.omp_model.specs.declared.cause.Cause.TheVariants as causes
 use Rattle.omp_model.specs.declared.event.Outcome.TheVariants as outcome
-use Rattle.omp_model.specs.{Legal.AllowsFrom, Storing.back_at, Storing.puts_at}
-use Rattle.omp_model.proofs.Turns.{leaves-turn, turn-goes}
-use Rattle.step_book.specs.declared.step.Step.TheVariants.{Quiet, NotYet, Ended}
-use Rattle.step_book.specs.Sharing.{AnswersThen, VisitsAfterOthers, IsHold}
+use Rattle.omp_model.{specs.Cause.cause_of, specs.Heard.has_back, specs.Legal.AllowsFrom, specs.Storing.back_at, specs.Storing.puts_at, proofs.Turns.leaves-turn, proofs.Turns.turn-goes}
 use Rattle.step_book.specs.Visit.{Visit, idle_by, idle_step, is_turn, visit}
-use Rattle.step_book.specs.{declared.hold.Hold.Hold, Steps.hold_by}
-use Rattle.step_book.proofs.Others.{entries-append, entries-others, not_by-append, owes-still}
-use Rattle.step_book.proofs.Telling.{ended-step, not_yet-step, quiet-step, told-step}
-use Rattle.step_book.proofs.{Histories.after-append, Visiting.visit-idle, Visiting.visit-turn}
-use Rattle.thread_run.specs.Driving.{GoesOn, HasCome, HasStep, IsDriven, IsInside}
+use Rattle.step_book.{specs.declared.hold.Hold.Hold, specs.declared.step.Step.TheVariants.Quiet, specs.declared.step.Step.TheVariants.NotYet, specs.declared.step.Step.TheVariants.Ended, specs.Sharing.AnswersThen, specs.Sharing.VisitsAfterOthers, specs.Sharing.IsHold, specs.Steps.hold_by, proofs.Histories.after-append, proofs.Others.entries-append, proofs.Others.entries-others, proofs.Others.not_by-append}
+use Rattle.step_book.{proofs.Others.owes-still, proofs.Telling.ended-step, proofs.Telling.not_yet-step, proofs.Telling.quiet-step, proofs.Telling.told-step, proofs.Visiting.visit-idle, proofs.Visiting.visit-turn}
+use Rattle.team_run.specs.Names.{Call, Reply, Snapshot, Item, item_of, is_registered, Stored, stores_of, Record, one_unheard, told, Cause, Callback, Event, Entry, Run, State, first, pending_at, call_of, callback_of, heard_of, Legal, after, after_from, back, back_from, entered, inside_after, snap_of, event_reply, go_at, turn, Step, Told, NotBy, Owes, BookView, state_of, entries_of, AddsHold, PassView, book_after}
+use Rattle.team_run.specs.Names.{turn_visit}
 use Rattle.team_run.{specs.Serving.served, specs.Unheard.LeftAt, proofs.Visiting.same-pending}
-use Rattle.thread_run.proofs.Hearing.{answered, back-others, heard-split, heard_on, more-without}
+use Rattle.thread_run.proofs.Hearing.{answered, back-append, back-others, heard-split, heard_on, more-without}
+use Rattle.thread_run.specs.Driving.{HasCome, HasStep, IsDriven, IsInside}
 
 -- Entries that leave a thread as it was.
 
@@ -36,8 +27,7 @@ calm-none run history t outside =
 -- a Go without an event
 calm-alone : (run : Run) (history : List Entry) (t : ℕ) → pending_at (after run history) t ≡ None → inside_after (turn run (after run history) t).outcome t ≡ None → IsCalm run history (go_at t ∷ []) t
 calm-alone run history t outside none =
-    let S = after run history in
-    record {
+    let S = after run history in record {
       same = more-without run (first run) 0 t history (go_at t ∷ []) refl;
       outside =
           ap (λ (S : State). pending_at S t) (after-append run (first run) history (go_at t ∷ []))
@@ -62,8 +52,7 @@ within run t below = let none : Option Callback = None in omega (arith, below, l
 calm-untold : (run : Run) (history : List Entry) (t : ℕ) (event : Event) → t < run.threads → pending_at (after run history) t ≡ None → (turn run (after run history) t).outcome ≡ outcome.Happens event → is_registered run.mask (callback_of event) ≡ false → IsCalm run history (go_at t ∷ back_at t ∷ []) t
 calm-untold run history t event below outside happens unregistered =
     let S = after run history in
-    let silent : heard_on run S (0 + length history) (go_at t ∷ back_at t ∷ []) t ≡ [] = rw (happens, unregistered) refl in
-    record {
+    let silent : heard_on run S (0 + length history) (go_at t ∷ back_at t ∷ []) t ≡ [] = rw (happens, unregistered) refl in record {
       same = heard-split run (first run) 0 t history (go_at t ∷ back_at t ∷ []) (within run t below) outside ∙ ap (λ more. heard_of run history t ++ more) silent ∙ append-nil (heard_of run history t);
       outside = ap (λ (S : State). pending_at S t) (after-append run (first run) history (go_at t ∷ back_at t ∷ [])) ∙ back-outside (turn run S t).state t;
     }
@@ -89,7 +78,7 @@ calm-visit book t below outside none = elim (is_turn book t) as (λ b. is_turn b
 
 -- a visit that tells of an event has its Go
 idle-untold : (book : BookView) (seq : ℕ) (call : Call) (snapshot : Snapshot) → idle_step book ≡ Told seq call snapshot → ⊥
-idle-untold book seq call snapshot = by book.ended (Rattle.omp_model.specs.Cause.cause_of book.run book.history)
+idle-untold book seq call snapshot = by book.ended (cause_of book.run book.history)
   where
     by : (ended : Bool) (cause : Option Cause) → (if◌then◌else◌ {A = Step} ended (Ended causes.Memory) (idle_by cause)) ≡ Told seq call snapshot → ⊥
     by true cause told = cc
@@ -115,8 +104,7 @@ hold-entries before later between entries hold =
 pub left-others : (run : Run) (history more : List Entry) (t : ℕ) (unheard : Bool) → NotBy t more → LeftAt run history t unheard → LeftAt run (history ++ more) t unheard
 left-others run history more t true none left =
     record { seq = left.seq; call = left.call; snapshot = left.snapshot; owes = owes-still run history more t left.seq left.call left.snapshot left.owes none }
-left-others run history more t false none left =
-    ap (λ (S : State). pending_at S t) (after-append run (first run) history more) ∙ entries-others run (after run history) t more none ∙ left
+left-others run history more t false none left = ap (λ (S : State). pending_at S t) (after-append run (first run) history more) ∙ entries-others run (after run history) t more none ∙ left
 
 pub heard-others : (run : Run) (history more : List Entry) (t : ℕ) → NotBy t more → heard_of run (history ++ more) t ≡ heard_of run history t
 heard-others run history more t none = more-without run (first run) 0 t history more (back-others t more none)
@@ -135,14 +123,13 @@ module _ {P : Type 0} (stands_for : P → Record → Type 0) (Same : P → P →
 
   -- others' entries change nothing
   pub driven-others : (pass later : PassView) (part : P) (more : List Entry) → NotBy pass.thread more → later.thread ≡ pass.thread → entries_of later.seen ≡ entries_of pass.seen ++ more → (pass.ended ≡ true → later.ended ≡ true) → Driven pass part → Driven later part
-  driven-others pass later part more none thread seen ended driven =
-      record {
-        unheard = driven.unheard;
-        left = rw (seen, thread) (left-others run (entries_of pass.seen) more pass.thread driven.unheard none driven.left);
-        over = λ unheard. ended (driven.over unheard);
-        hears = λ h stands. rw (seen, thread, heard-others run (entries_of pass.seen) more pass.thread none) (driven.hears h stands);
-        same_is = driven.same_is;
-      }
+  driven-others pass later part more none thread seen ended driven = record {
+    unheard = driven.unheard;
+    left = rw (seen, thread) (left-others run (entries_of pass.seen) more pass.thread driven.unheard none driven.left);
+    over = λ unheard. ended (driven.over unheard);
+    hears = λ h stands. rw (seen, thread, heard-others run (entries_of pass.seen) more pass.thread none) (driven.hears h stands);
+    same_is = driven.same_is;
+  }
 
   -- a hold without an entry
   pub driven-grown : (pass later : PassView) (part : P) → AddsHold pass later [] → (pass.ended ≡ true → later.ended ≡ true) → Driven pass part → Driven later part
@@ -151,11 +138,7 @@ module _ {P : Type 0} (stands_for : P → Record → Type 0) (Same : P → P →
 
   -- a pass that hasn't ended the run is inside no callback
   not-unheard : (pass : PassView) (part : P) → pass.ended ≡ false → (driven : Driven pass part) → driven.unheard ≡ false
-  not-unheard pass part ended driven = by driven.unheard driven.over
-    where
-      by : (unheard : Bool) → (unheard ≡ true → pass.ended ≡ true) → unheard ≡ false
-      by true over = absurd (true≢false (sym (over refl) ∙ ended))
-      by false over = refl
+  not-unheard pass part ended driven = false_from_ne_true driven.unheard (λ is. true≢false (sym (driven.over is) ∙ ended))
 
   pub outside-of : (pass : PassView) (part : P) → pass.ended ≡ false → Driven pass part → pending_at (after run (entries_of pass.seen)) pass.thread ≡ None
   outside-of pass part ended driven = rw (not-unheard pass part ended driven) at driven.left
@@ -168,8 +151,7 @@ module _ {P : Type 0} (stands_for : P → Record → Type 0) (Same : P → P →
       record { unheard = false; left = outside; over = λ same. absurd (true≢false (sym same)); hears = inside.hears; same_is = inside.same_is }
 
   -- a visit that tells of no event
-  pub driven-quiet :
-      (pass later : PassView) (part : P) (step : Step) → pass.thread < run.threads → pass.ended ≡ false → VisitsAfterOthers run pass step later
+  pub driven-quiet : (pass later : PassView) (part : P) (step : Step) → pass.thread < run.threads → pass.ended ≡ false → VisitsAfterOthers run pass step later
       → ((seq : ℕ) (call : Call) (snapshot : Snapshot) → step ≡ Told seq call snapshot → ⊥) → Driven pass part → Driven later part
   driven-quiet pass later part step below ended goes none driven =
       let book = book_after run (pass.seen ++ goes.between) goes.ended in
@@ -196,8 +178,8 @@ module _ {P : Type 0} (stands_for : P → Record → Type 0) (Same : P → P →
       rw (seen, goes.is_hold.thread) (more-without run (first run) 0 t (entries_of pass.seen) more (no-back t (entries_of goes.between) goes.is_hold.not_by)) in
       record { hears = λ h stands. rw same (inside.hears h stands); same_is = inside.same_is }
     where
-      no-back : (t : ℕ) (xs : List Entry) → NotBy t xs → Rattle.omp_model.specs.Heard.has_back t (xs ++ go_at t ∷ []) ≡ false
-      no-back t xs none = Rattle.thread_run.proofs.Hearing.back-append t xs (go_at t ∷ []) refl ∙ back-others t xs none
+      no-back : (t : ℕ) (xs : List Entry) → NotBy t xs → has_back t (xs ++ go_at t ∷ []) ≡ false
+      no-back t xs none = back-append t xs (go_at t ∷ []) refl ∙ back-others t xs none
 
   -- its callback was answered
   pub driven-answered :
@@ -238,8 +220,7 @@ module _ {P : Type 0} (stands_for : P → Record → Type 0) (Same : P → P →
           ap (λ (S : State). pending_at S t) (after-append run (first run) history (event_reply t stores) ∙ after-append run (after run history) (puts_at t stores) (back_at t ∷ [])) ∙ back-outside S t
 
   -- its part found no memory
-  pub driven-unheard :
-      (pass later : PassView) (part next : P) (seq : ℕ) (call : Call) (snapshot : Snapshot) → Owes run (entries_of pass.seen) pass.thread seq call snapshot → AddsHold pass later [] → later.ended ≡ true
+  pub driven-unheard : (pass later : PassView) (part next : P) (seq : ℕ) (call : Call) (snapshot : Snapshot) → Owes run (entries_of pass.seen) pass.thread seq call snapshot → AddsHold pass later [] → later.ended ≡ true
       → ((h : Record) → stands_for part h → stands_for next (one_unheard h)) → ((first second third : P) → Same first second → Same second third → Same first third) → Same part next → Inside pass part → Driven later next
   driven-unheard pass later part next seq call snapshot owes grows ended none onward kept inside =
       let t = pass.thread in
@@ -260,12 +241,10 @@ module _ {P : Type 0} (stands_for : P → Record → Type 0) (Same : P → P →
 
   -- a visit, and then no memory
   driven-ended : (pass later last : PassView) (part : P) → AddsHold pass later [] → later.ended ≡ pass.ended → AddsHold later last [] → last.ended ≡ true → Driven pass part → Driven last part
-  driven-ended pass later last part one same two ended driven =
-      driven-grown later last part two (λ over. ended) (driven-grown pass later part one (λ over. same ∙ over) driven)
+  driven-ended pass later last part one same two ended driven = driven-grown later last part two (λ over. ended) (driven-grown pass later part one (λ over. same ∙ over) driven)
 
   -- a visit of a pass
-  pub come-gone :
-      {E : Type 0} (pass later : PassView) (part : P) (result : Result Step E) → pass.thread < run.threads
+  pub come-gone : {E : Type 0} (pass later : PassView) (part : P) (result : Result Step E) → pass.thread < run.threads
       → (pass.ended ≡ true → (later ≡ pass) × IsOk result × IfOk result (λ step. step ≡ Ended causes.Memory)) → (pass.ended ≡ false → IfOk result (λ step. VisitsAfterOthers run pass step later))
       → OnErr result (AddsHold pass later []) → later.ended ≡ pass.ended → Driven pass part → HasCome stands_for Same run whose later part result
   come-gone pass later part (Ok step) below over goes memory same driven = by pass.ended refl
@@ -278,8 +257,7 @@ module _ {P : Type 0} (stands_for : P → Record → Type 0) (Same : P → P →
   -- its callback was answered, and then it visited again
   pub come-answered :
       {E : Type 0} (pass later : PassView) (part next : P) (seq : ℕ) (call : Call) (snapshot : Snapshot) (reply : Reply) (result : Result Step E) → Legal run (entries_of pass.seen) → pass.thread < run.threads → pass.ended ≡ false
-      → Owes run (entries_of pass.seen) pass.thread seq call snapshot
-      → IfOk result (λ step. AnswersThen pass (event_reply pass.thread (stores_of reply snapshot)) (λ answered. VisitsAfterOthers run answered step later))
+      → Owes run (entries_of pass.seen) pass.thread seq call snapshot → IfOk result (λ step. AnswersThen pass (event_reply pass.thread (stores_of reply snapshot)) (λ answered. VisitsAfterOthers run answered step later))
       → OnErr result (AnswersThen pass (event_reply pass.thread (stores_of reply snapshot)) (λ answered. AddsHold answered later [])) → later.ended ≡ pass.ended
       → ((h : Record) → stands_for part h → stands_for next (told h (item_of seq pass.thread call snapshot reply))) → ((first second third : P) → Same first second → Same second third → Same first third) → Same part next → Inside pass part → HasCome stands_for Same run whose later next result
   come-answered pass later part next seq call snapshot reply (Ok step) legal below open_now owes goes memory same tells onward kept inside =
@@ -288,10 +266,3 @@ module _ {P : Type 0} (stands_for : P → Record → Type 0) (Same : P → P →
   come-answered pass later part next seq call snapshot reply (Err e) legal below open_now owes goes memory same tells onward kept inside =
       let driven = driven-answered pass memory.answered part next seq call snapshot reply legal below owes memory.grows tells onward kept inside in
       λ last grows ended. driven-ended memory.answered later last next memory.next (same ∙ sym memory.ended) grows ended driven
-
--- a driver whose pass's visit told of no event goes on, and its part is as it was
-pub goes-quiet :
-    {P : Type 0} (stands_for : P → Record → Type 0) (Same : P → P → Type 0) (run : Run) (pass later : PassView) (part : P) (step : Step) → later.thread ≡ pass.thread → pass.thread < run.threads → pass.ended ≡ false
-    → (pass.ended ≡ false → VisitsAfterOthers run pass step later) → ((seq : ℕ) (call : Call) (snapshot : Snapshot) → step ≡ Told seq call snapshot → ⊥) → GoesOn stands_for Same run pass part later part
-goes-quiet stands_for Same run pass later part step thread below open_now goes none =
-    record { thread = thread; driven = λ whose driven. driven-quiet stands_for Same run whose pass later part step below open_now (goes open_now) none driven }

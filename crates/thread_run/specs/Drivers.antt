@@ -1,8 +1,7 @@
 -- The drivers of a run, while they are started, and once they have come back.
-use Rattle.std.specs.Prelude.{ℕ, ◌≡◌, ◌≢◌, ◌<◌, Bool, false, List, length, get_or, IfSome, Some, Result, Ok, Err}
-use Rattle.team_run.specs.Names.{Record, cause_of, Run, heard_of, Legal, after, Closed, PassView}
+use Rattle.std.specs.Prelude.{ℕ, ◌≡◌, ◌≢◌, ◌<◌, false, List, [], length, get_or, Some, Result, Ok, Err}
 use Rattle.omp_model.specs.declared.cause.Cause.TheVariants as causes
-use Rattle.team_run.specs.{Serving.AreSame, Serving.called_for, Standing.HearsOwn, Unheard.LeftAt}
+use Rattle.team_run.specs.{Names.Record, Names.Cause, Names.Run, Names.Closed, Names.PassView, Program.HaveServed}
 use Rattle.thread_run.specs.{declared.team.Slot.Slot, Driving.IsDriven}
 
 -- the driver of a thread, whose part was this one at first
@@ -34,18 +33,8 @@ abbrev pub AreKept : {P L : Type 0} → (ℕ → P → L → Type 0) → List L 
 AreKept {P = P} {L = L} is slots others = (k : ℕ) (d : L) (t : ℕ) (first : P) → k < length slots →
     is t first (get_or slots k d) → is t first (get_or others k d)
 
--- What a run by threads has come to: a legal history, and its parts, which were called for what their threads hear of it, and else at most
--- once, where the call found no memory. Then the run ended for want of memory.
-pub record HaveServed {P : Type 0} (stands_for : P → Record → Type 0) (Same : P → P → Type 0) (run : Run) (closed : Closed)
-    (parts others : List P) : Type 0 where
-  pub legal : Legal run closed.history
-  pub own : HearsOwn run closed.history
-  pub text : closed.text.items ≡ (after run closed.history).world.store.text
-  pub known : IfSome closed.cause (λ cause. cause ≢ causes.Memory → cause_of run closed.history ≡ Some cause)
-  pub as_many : length others ≡ length parts
-  pub unheard : ℕ → Bool
-  pub left : (k : ℕ) → k < run.threads → LeftAt run closed.history k (unheard k)
-  pub all_heard : closed.cause ≢ Some causes.Memory → (k : ℕ) → k < run.threads → unheard k ≡ false
-  pub each : (k : ℕ) (d : P) (h : Record) → k < length parts → stands_for (get_or parts k d) h →
-      stands_for (get_or others k d) (called_for (heard_of run closed.history k) (unheard k) h)
-  pub same : AreSame Same parts others
+-- What a run by threads has come to, of which this is the cause, where that is known, or else want of memory. Then the history has an entry
+abbrev pub HasServed : {P : Type 0} → (P → Record → Type 0) → (P → P → Type 0) → Run → Closed → List P → List P → Type 0
+HasServed stands_for Same run closed parts others =
+    (cause : Cause) → (cause ≢ causes.Memory → closed.cause ≡ Some cause) → (cause ≡ causes.Memory → closed.history ≢ []) →
+    HaveServed stands_for Same false run cause closed.history closed.text.items parts others

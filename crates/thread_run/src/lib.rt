@@ -28,7 +28,7 @@
 //! - that a run ends, that a thread that sleeps wakes, and in which cause a run ends;
 //! - that callbacks of different threads overlap, that threads were started, and that no lock is held while a part is called:
 //!   to be read in `src/`;
-//! - that a run finds memory. Of the parts nothing is said after an error. That an error comes only before a thread was started
+//! - that a run finds memory. Of the parts nothing is said after an error. That an error comes only before the first entry
 //!   is to be read;
 //! - that part 0 is started before the other parts are called and finished after the threads have come back: a record doesn't
 //!   say in which order the calls of different parts came.

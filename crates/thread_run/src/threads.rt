@@ -1,13 +1,14 @@
 //! The run by threads: each thread number has a thread of its own, where it can be started, and callbacks of different threads may overlap.
 
 ghost use Rattle.std.specs.Prelude.{◌≡◌, ◌≢◌, ◌≤◌, Some, IfOk, false, length, vec_capacity, []};
-ghost use Rattle.thread_run.specs.Drivers.{AreDrivers, HaveServed};
+ghost use Rattle.thread_run.specs.Drivers.{AreDrivers, HasServed};
 ghost use Rattle.team_run.specs.Program.{IsRan, run_of};
 
 use crate::team::{Slot, Stays, drive_here, finish_all, start_all};
 use c_check::Program;
+use omp_machine::Limits;
 use omp_model::Cause;
-use std::alloc::Global;
+use std::alloc::{AllocError, Global};
 use std::marker::Brand;
 use std::num::NonZeroUsize;
 use std::sync::Wait;
@@ -25,36 +26,32 @@ use tool_api::ToolPart;
 /// answers another number than 0 it is finished after the last entry, when all threads have come back. A thread that can't be started is
 /// driven by the caller.
 ///
-/// No clause says when memory is wanting, that the run ends, or that callbacks overlap. An error comes only before a thread was started.
+/// No clause says when memory is wanting, that the run ends, or that callbacks overlap. That an error comes only before the first entry is to be
+/// read.
 pub fn run_threads<R: Threads + Wait + Sync, P: ToolPart>(
     rt: &R,
     alloc: Global,
     program: Program,
-    threads: u8,
-    steps: u32,
+    limits: Limits,
     parts: Vec<P>,
 ) -> Result<Ran<P>, Memory>
-    requires some { 1 ≤ threads }
-    requires few { threads ≤ 16 }
-    requires steps { 1 ≤ steps }
-    requires bounded { steps ≤ 30000000 }
-    requires parts { length parts.items ≡ threads }
+    requires { length parts.items ≡ limits.threads }
     ensures ran { IfOk result (λ ran.
-        IsRan P.stands_for P.same false (run_of program threads steps ran) parts.items ran) }
+        IsRan P.stands_for P.same false (run_of program limits.threads limits.steps ran) parts.items ran) }
 {
     let mut parts = parts;
     let start = initialize_first(&mut parts);
     let mask = mask_of(start);
-    let blank = Blank::new(alloc, program, mask, threads, steps)?;
+    let blank = Blank::new(alloc, program, mask, limits)?;
     let (closed, mut parts) = run_team::<R, Brand, P>(rt, alloc, blank, parts)?;
+    let cause = known_cause(closed.cause);
+    if cause == Cause::Memory && closed.history.as_slice().is_empty() {
+        return Err(AllocError);
+    }
     finalize_first(start, &mut parts);
-    let Closed {
-        history,
-        text,
-        cause,
-    } = closed;
+    let Closed { history, text, .. } = closed;
     Ok(Ran {
-        cause: known_cause(cause),
+        cause,
         mask,
         history,
         text,
@@ -84,7 +81,7 @@ fn run_team<R: Threads + Wait + Sync, K: BookName, P: ToolPart>(
     requires some { 1 ≤ K.run.threads }
     requires few { K.run.threads ≤ 16 }
     requires parts { length parts.items ≡ K.run.threads }
-    ensures { IfOk result (λ team. HaveServed P.stands_for P.same K.run team.0 parts.items team.1.items) }
+    ensures { IfOk result (λ team. HasServed P.stands_for P.same K.run team.0 parts.items team.1.items) }
 {
     let (book, passes) = SharedBook::<K>::start(alloc, blank, processors(rt))?;
     let slots = Vec::with_capacity(alloc, passes.len())?;

@@ -1,9 +1,9 @@
 //! A part as a guest.
 
 use crate::guest_tool::GuestTool;
-use crate::part::{Memory, ToolPart};
+use crate::part::{Response, ToolPart};
 use crate::registrar::Registrar;
-use ompt_calls::{Call, Reply, Snapshot};
+use ompt_calls::{Call, Snapshot};
 
 /// A part as a guest: it hands each call on to the part, and stands for what the part stands for. So two tools in one, which are a part,
 /// can be the guest of a thread.
@@ -17,13 +17,7 @@ impl<P: ToolPart> GuestTool for GuestOf<P> {
         self.0.initialize(registrar)
     }
 
-    fn callback(
-        &mut self,
-        seq: u32,
-        thread: u8,
-        call: &Call,
-        snapshot: &Snapshot,
-    ) -> Result<Reply, Memory> {
+    fn callback(&mut self, seq: u32, thread: u8, call: &Call, snapshot: &Snapshot) -> Response {
         self.0.callback(seq, thread, call, snapshot)
     }
 

@@ -4,9 +4,9 @@ ghost use Rattle.std.specs.Prelude.{◌≡◌, IfOk, OnErr};
 ghost use Rattle.ompt_calls.specs.Item.{item_of};
 ghost use Rattle.tool_api.specs.Record.{Record, initialized, told, one_unheard, finalized};
 
-use crate::part::Memory;
+use crate::part::Response;
 use crate::registrar::Registrar;
-use ompt_calls::{Call, Reply, Snapshot};
+use ompt_calls::{Call, Snapshot};
 
 /// A tool that is called through a box, with the calls of a `ToolPart` and its promises on `stands_for`. It is a trait of its own, since a
 /// box has no type that a runtime could be written for.
@@ -23,13 +23,7 @@ pub trait GuestTool: Drop + Send {
 
     /// Tells the tool of an event: its position in the history, its thread, and its callback with the arguments. The
     /// snapshot has what can be inquired meanwhile, and the reply what the tool stores.
-    fn callback(
-        &mut self,
-        seq: u32,
-        thread: u8,
-        call: &Call,
-        snapshot: &Snapshot,
-    ) -> Result<Reply, Memory>
+    fn callback(&mut self, seq: u32, thread: u8, call: &Call, snapshot: &Snapshot) -> Response
         ensures heard { IfOk result (λ reply. (h : Record) → stands_for self.old h →
             stands_for self.new (told h (item_of seq thread call.now snapshot.now reply))) }
         ensures memory { OnErr result ((h : Record) → stands_for self.old h → stands_for self.new (one_unheard h)) };

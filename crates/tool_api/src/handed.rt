@@ -2,10 +2,10 @@
 
 ghost use Rattle.tool_api.specs.Handed.{HandedFor, SameHanded, handed-itself, handed-onward};
 
-use crate::part::{Memory, ToolPart};
+use crate::part::{Response, ToolPart};
 use crate::quiet::Quiet;
 use crate::registrar::Registrar;
-use ompt_calls::{Call, Reply, Snapshot};
+use ompt_calls::{Call, Snapshot};
 
 /// A tool, or none. It passes each call to the part that it holds, and stands for what
 /// that part stands for.
@@ -33,13 +33,7 @@ impl<G: ToolPart> ToolPart for Handed<G> {
         }
     }
 
-    fn callback(
-        &mut self,
-        seq: u32,
-        thread: u8,
-        call: &Call,
-        snapshot: &Snapshot,
-    ) -> Result<Reply, Memory> {
+    fn callback(&mut self, seq: u32, thread: u8, call: &Call, snapshot: &Snapshot) -> Response {
         match self {
             Handed::Guest(guest) => guest.callback(seq, thread, call, snapshot),
             Handed::Quiet(quiet) => quiet.callback(seq, thread, call, snapshot),

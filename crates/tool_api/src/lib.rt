@@ -49,7 +49,7 @@ mod registrar;
 pub use guest_of::GuestOf;
 pub use guest_tool::GuestTool;
 pub use handed::Handed;
-pub use part::{ACTIVE, Memory, ToolPart};
+pub use part::{ACTIVE, Memory, Response, ToolPart};
 pub use part_of::PartOf;
 pub use quiet::Quiet;
 pub use registrar::Registrar;

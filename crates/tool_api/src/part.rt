@@ -10,6 +10,9 @@ use ompt_calls::{Call, Reply, Snapshot};
 /// The error of a call that found no memory.
 pub type Memory = std::alloc::AllocError;
 
+/// What a tool answers to an event: its reply, or that it found no memory.
+pub type Response = Result<Reply, Memory>;
+
 /// An answer to `initialize` that makes a tool active: any but 0 does.
 pub const ACTIVE: u32 = 1;
 
@@ -35,13 +38,7 @@ pub trait ToolPart: Drop + Send {
 
     /// Tells the part of an event: its position in the history, its thread, and its callback with the arguments. The
     /// snapshot has what can be inquired meanwhile, and the reply what the part stores.
-    fn callback(
-        &mut self,
-        seq: u32,
-        thread: u8,
-        call: &Call,
-        snapshot: &Snapshot,
-    ) -> Result<Reply, Memory>
+    fn callback(&mut self, seq: u32, thread: u8, call: &Call, snapshot: &Snapshot) -> Response
         ensures heard { IfOk result (λ reply. (h : Record) → stands_for self.old h →
             stands_for self.new (told h (item_of seq thread call.now snapshot.now reply))) }
         ensures memory { OnErr result ((h : Record) → stands_for self.old h → stands_for self.new (one_unheard h)) }

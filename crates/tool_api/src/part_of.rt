@@ -3,9 +3,9 @@
 ghost use Rattle.std.specs.Prelude.{⊤};
 
 use crate::guest_tool::GuestTool;
-use crate::part::{Memory, ToolPart};
+use crate::part::{Response, ToolPart};
 use crate::registrar::Registrar;
-use ompt_calls::{Call, Reply, Snapshot};
+use ompt_calls::{Call, Snapshot};
 
 /// A tool as a part: `tool_both` joins parts. It hands each call on to the tool, and stands for what the tool stands for.
 #[derive(Drop)]
@@ -24,13 +24,7 @@ impl<T: GuestTool> ToolPart for PartOf<T> {
         self.0.initialize(registrar)
     }
 
-    fn callback(
-        &mut self,
-        seq: u32,
-        thread: u8,
-        call: &Call,
-        snapshot: &Snapshot,
-    ) -> Result<Reply, Memory> {
+    fn callback(&mut self, seq: u32, thread: u8, call: &Call, snapshot: &Snapshot) -> Response {
         self.0.callback(seq, thread, call, snapshot)
     }
 

@@ -4,7 +4,7 @@ ghost use Rattle.std.specs.Prelude.{IfOk, OnErr, IsOk, ⊤};
 ghost use Rattle.ompt_calls.specs.Item.{item_of};
 ghost use Rattle.tool_api.specs.Record.{Record, QuietFor, told, one_unheard};
 
-use crate::part::{Memory, ToolPart};
+use crate::part::{Response, ToolPart};
 use crate::registrar::Registrar;
 use ompt_calls::{Call, Reply, Snapshot};
 
@@ -25,13 +25,7 @@ impl ToolPart for Quiet {
         0
     }
 
-    fn callback(
-        &mut self,
-        seq: u32,
-        thread: u8,
-        call: &Call,
-        snapshot: &Snapshot,
-    ) -> Result<Reply, Memory>
+    fn callback(&mut self, seq: u32, thread: u8, call: &Call, snapshot: &Snapshot) -> Response
         ensures heard { IfOk result (λ reply. (h : Record) → QuietFor self.old h →
             QuietFor self.new (told h (item_of seq thread call.now snapshot.now reply))) }
         ensures memory { OnErr result ((h : Record) → QuietFor self.old h → QuietFor self.new (one_unheard h)) }

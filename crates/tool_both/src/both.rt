@@ -4,9 +4,9 @@ ghost use Rattle.tool_api.specs.Registering.{AreAlways};
 
 use crate::joined_reply::{NOTHING, joined};
 use crate::masks::Masks;
-use ompt_calls::{Call, Reply, Snapshot, is_registered};
+use ompt_calls::{Call, Snapshot, is_registered};
 use std::alloc::AllocError;
-use tool_api::{Memory, Registrar, ToolPart};
+use tool_api::{Registrar, Response, ToolPart};
 
 /// Two tools as one part. Each is told of the events that it has registered, and of no other one.
 #[derive(Drop)]
@@ -80,13 +80,7 @@ impl<A: ToolPart, B: ToolPart> ToolPart for Both<A, B> {
         self.masks.answer()
     }
 
-    fn callback(
-        &mut self,
-        seq: u32,
-        thread: u8,
-        call: &Call,
-        snapshot: &Snapshot,
-    ) -> Result<Reply, Memory> {
+    fn callback(&mut self, seq: u32, thread: u8, call: &Call, snapshot: &Snapshot) -> Response {
         if !self.whole {
             return Err(AllocError);
         }

@@ -2,8 +2,8 @@
 
 ghost use Rattle.tool_profiled.specs.Asking.{AskedFor};
 
-use ompt_calls::{Call, Reply, Snapshot};
-use tool_api::{Memory, Registrar, ToolPart};
+use ompt_calls::{Call, Snapshot};
+use tool_api::{Registrar, Response, ToolPart};
 
 /// A part that was asked for its registrations. It passes each call on to the part that it holds.
 ///
@@ -25,13 +25,7 @@ impl<P: ToolPart> ToolPart for Asked<P> {
         self.0.initialize(registrar)
     }
 
-    fn callback(
-        &mut self,
-        seq: u32,
-        thread: u8,
-        call: &Call,
-        snapshot: &Snapshot,
-    ) -> Result<Reply, Memory> {
+    fn callback(&mut self, seq: u32, thread: u8, call: &Call, snapshot: &Snapshot) -> Response {
         self.0.callback(seq, thread, call, snapshot)
     }
 

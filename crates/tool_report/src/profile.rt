@@ -8,10 +8,10 @@ ghost use Rattle.tool_report.specs.KeeperRelation.{ProfileFor};
 
 use crate::shipped::{ACTIVE, NOTHING};
 use omp_codes::callbacks::{COUNT, PROFILE};
-use ompt_calls::{Call, Reply, Snapshot};
+use ompt_calls::{Call, Snapshot};
 use std::alloc::AllocError;
 use std::marker::Model;
-use tool_api::{Memory, Registrar, ToolPart};
+use tool_api::{Registrar, Response, ToolPart};
 
 /// A part that counts the calls of `callback`, and keeps nothing else of them. Contracts see it as that list of counts: one for each callback
 /// of the profile, by rising numbers.
@@ -66,13 +66,7 @@ impl ToolPart for Profile {
         ACTIVE
     }
 
-    fn callback(
-        &mut self,
-        _seq: u32,
-        _thread: u8,
-        call: &Call,
-        _snapshot: &Snapshot,
-    ) -> Result<Reply, Memory> {
+    fn callback(&mut self, _seq: u32, _thread: u8, call: &Call, _snapshot: &Snapshot) -> Response {
         let place = place_of(call);
         let Some(count) = self.counts[place].checked_add(1) else {
             return Err(AllocError);

@@ -4,10 +4,10 @@ ghost use Rattle.std.specs.Prelude.{◌≡◌, [], ⊤};
 ghost use Rattle.tool_report.specs.KeeperRelation.{RecorderFor};
 
 use crate::shipped::{ACTIVE, NOTHING};
-use ompt_calls::{Call, EventRecord, Reply, Snapshot};
+use ompt_calls::{Call, EventRecord, Snapshot};
 use std::alloc::Global;
 use std::marker::Model;
-use tool_api::{Memory, Registrar, ToolPart};
+use tool_api::{Registrar, Response, ToolPart};
 
 /// A part that keeps a record of each call of `callback`, in order. Contracts see it as that list.
 #[derive(Drop)]
@@ -60,13 +60,7 @@ impl ToolPart for Recorder {
         ACTIVE
     }
 
-    fn callback(
-        &mut self,
-        seq: u32,
-        thread: u8,
-        call: &Call,
-        snapshot: &Snapshot,
-    ) -> Result<Reply, Memory> {
+    fn callback(&mut self, seq: u32, thread: u8, call: &Call, snapshot: &Snapshot) -> Response {
         let event = EventRecord {
             seq,
             thread,

@@ -4,10 +4,10 @@ ghost use Rattle.std.specs.Prelude.{◌≡◌, [], ⊤};
 ghost use Rattle.tool_report.specs.KeeperRelation.{TimelineFor};
 
 use crate::shipped::{ACTIVE, NOTHING};
-use ompt_calls::{Call, Reply, Snapshot};
+use ompt_calls::{Call, Snapshot};
 use std::alloc::Global;
 use std::marker::Model;
-use tool_api::{Memory, Registrar, ToolPart};
+use tool_api::{Registrar, Response, ToolPart};
 
 /// The state of a thread from an event on.
 #[derive(Clone, Copy, PartialEq, Eq, Debug)]
@@ -66,13 +66,7 @@ impl ToolPart for Timeline {
         ACTIVE
     }
 
-    fn callback(
-        &mut self,
-        seq: u32,
-        _thread: u8,
-        _call: &Call,
-        snapshot: &Snapshot,
-    ) -> Result<Reply, Memory> {
+    fn callback(&mut self, seq: u32, _thread: u8, _call: &Call, snapshot: &Snapshot) -> Response {
         self.moments.push(Moment {
             seq,
             state: snapshot.state,

@@ -6,10 +6,10 @@ ghost use Rattle.tool_tasks.specs.Collecting.{trace_in};
 ghost use Rattle.trace_format.specs.Validity.{IsTrace};
 
 use crate::unread::Unread;
-use ompt_calls::EventRecord;
+use ompt_calls::{EventRecord, Sequence};
 use std::alloc::{AllocError, Global};
 use trace_check::Checker;
-use trace_format::{EndMark, Events, Header, Item, RECORDED, Taker, Trace, VERSION};
+use trace_format::{EndMark, Header, Item, RECORDED, Taker, Trace, VERSION};
 
 /// What collects the items of a trace: its parts, as far as they have come.
 #[derive(Drop)]
@@ -49,7 +49,7 @@ impl Collector {
     {
         Trace {
             header: self.header,
-            events: Events(self.events),
+            events: Sequence(self.events),
             end: self.end,
         }
     }

@@ -1,10 +1,10 @@
 //! Building the tree event by event.
 
-ghost use Rattle.std.specs.Prelude.{◌≡◌, ◌∷◌, ◌+◌, [], List, IfOk, None, OnOk, length, slice_get};
+ghost use Rattle.std.specs.Prelude.{◌≡◌, ◌∷◌, ◌+◌, [], List, IfOk, None, OnOk, is_some, length, slice_get};
 ghost use Rattle.ompt_calls.specs.declared.event.EventRecord.{EventRecord as EventOf};
 ghost use Rattle.trace_check.specs.Checking.{Unbroken};
 ghost use Rattle.trace_check.specs.Rules.{first_broken};
-ghost use Rattle.tool_tasks.specs.Charge.{charged_task};
+ghost use Rattle.tool_tasks.specs.Charge.{charged_task, one_if};
 ghost use Rattle.tool_tasks.specs.Reaching.{span_of};
 ghost use Rattle.tool_tasks.specs.Holding.{Builds, CountsOne, HoldsForest, HoldsNodes, HoldsRegions, IsWalk};
 
@@ -55,11 +55,26 @@ impl ForestBuilder {
     {
         self.make(event)?;
         let charged = self.stacks.take(event)?;
-        if let Some(task) = charged {
-            self.work = self.work.checked_add(1).ok_or(AllocError)?;
-            count_event(&mut self.nodes, task)?;
-        }
+        self.count(charged)?;
         Ok(charged)
+    }
+
+    /// Counts an event that is charged to this task, or to none.
+    #[tactic(auto, using(crate::proofs::Grown::counted, crate::proofs::Grown::uncounted))]
+    fn count(&mut self, charged: Option<u32>) -> Result<(), AllocError>
+        ensures stacks { self.new.stacks ≡ self.old.stacks }
+        ensures regions { self.new.regions ≡ self.old.regions }
+        ensures work { OnOk result (self.new.work ≡ self.old.work + one_if (is_some charged)) }
+        ensures nodes { OnOk result ((past : List EventOf) (event : EventOf) → charged ≡ charged_task past event →
+            HoldsNodes self.old.nodes.items (event ∷ past) past →
+            HoldsNodes self.new.nodes.items (event ∷ past) (event ∷ past)) }
+    {
+        let Some(task) = charged else {
+            return Ok(());
+        };
+        self.work = self.work.checked_add(1).ok_or(AllocError)?;
+        count_event(&mut self.nodes, task)?;
+        Ok(())
     }
 
     /// Learns which region or task the event makes.

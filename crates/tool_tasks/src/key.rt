@@ -4,7 +4,7 @@ ghost use Rattle.std.specs.Prelude.{◌≡◌};
 ghost use Rattle.tool_tasks.specs.Holding.{IsShortKey, number_in, number_of};
 
 /// What an event gives, and a later one takes. The first leads to the later one where they have a key in common.
-#[derive(Clone, Copy, PartialEq, Eq)]
+#[derive(Clone, Copy)]
 pub enum Key {
     /// The event of this task with this number, counted from 0.
     Next(u32, u32),

@@ -8,7 +8,7 @@ use omp_codes::task_flags::INITIAL;
 use ompt_calls::Call;
 
 /// What an event makes.
-#[derive(Clone, Copy, PartialEq, Eq)]
+#[derive(Clone, Copy)]
 pub enum Making {
     /// This region, with its encountering task.
     Region(u32, u32),

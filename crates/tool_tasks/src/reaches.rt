@@ -12,7 +12,7 @@ use std::alloc::{AllocError, Global};
 use std::collections::BTreeMap;
 
 /// The longest chain to an event.
-#[derive(Clone, Copy, PartialEq, Eq)]
+#[derive(Clone, Copy)]
 pub(crate) struct Reach {
     /// Its length.
     pub length: u32,
@@ -21,7 +21,7 @@ pub(crate) struct Reach {
 }
 
 /// A charged event, and the one before it in a longest chain to it.
-#[derive(Clone, Copy, PartialEq, Eq)]
+#[derive(Clone, Copy)]
 pub(crate) struct Link {
     /// The event's position.
     pub seq: u32,

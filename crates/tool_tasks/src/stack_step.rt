@@ -8,7 +8,7 @@ use omp_codes::task_statuses::{COMPLETE, SWITCH};
 use ompt_calls::Call;
 
 /// What an event does to the stack of tasks of its thread.
-#[derive(Clone, Copy, PartialEq, Eq)]
+#[derive(Clone, Copy)]
 pub enum StackStep {
     /// The thread goes to this task.
     Push(u32),

@@ -13,7 +13,7 @@ use std::alloc::{AllocError, Global};
 const THREADS: usize = 256;
 
 /// A task on a stack.
-#[derive(Clone, Copy, PartialEq, Eq)]
+#[derive(Clone, Copy)]
 pub(crate) struct StackFrame {
     /// The task.
     pub task: u32,

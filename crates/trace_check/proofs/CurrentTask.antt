@@ -1,8 +1,8 @@
 -- The task that a thread runs after the begin of a bracket, and after its end.
-use Rattle.std.proofs.Common.{◌≡◌, ℕ, ◌==◌, ◌&&◌, ◌||◌, Bool, true, false, cond, not, List, ◌∷◌, Option, Some, None, refl, sym, ◌∙◌, ap, subst}
+use Rattle.std.proofs.Common.{◌≡◌, ℕ, ◌==◌, ◌&&◌, ◌||◌, Bool, true, false, true≢false, cond, not, List, ◌∷◌, Option, Some, None, refl, sym, ◌∙◌, ap, subst}
 use Rattle.std.proofs.lemmas.Bool.{eqb-true, eq-eqb}
 use Rattle.ompt_calls.specs.declared.call.Call.{Call}
-use Rattle.ompt_calls.specs.declared.call.Call.TheVariants.{ParallelBegin, TaskSchedule, ImplicitTask, SyncRegionWait, Work, Masked, SyncRegion}
+use Rattle.ompt_calls.specs.declared.call.Call.TheVariants.{ParallelBegin, ParallelEnd, TaskSchedule, ImplicitTask, SyncRegionWait, Work, Masked, SyncRegion}
 use Rattle.ompt_calls.specs.declared.event.EventRecord.{EventRecord}
 use Rattle.trace_check.specs.declared.bracket.Bracket.{Bracket}
 use Rattle.trace_check.specs.declared.bracket.Bracket.TheVariants.{Parallel, Implicit, Explicit}
@@ -47,6 +47,16 @@ status_opens status prior next bracket opens = by-test (status == 7) (status == 
     by-test false true is = absurd (cc)
     by-test false false is = absurd (cc)
 
+-- a change opens one bracket, and what closes one or leaves them opens none
+same_opened : (one other : Bracket) → Opens one ≡ Opens other → one ≡ other
+same_opened one other same = cc
+
+closing_opens : (one other : Bracket) → Closes one ≡ Opens other → ⊥
+closing_opens one other same = cc
+
+staying_opens : (bracket : Bracket) → Stays ≡ Opens bracket → ⊥
+staying_opens bracket same = cc
+
 -- only the initial task begins as one
 initial_one : (first begins initial region task rest : Bool) → begins ≡ true → initial ≡ true
     → cond first (begins && (initial && (region && (task && rest)))) (not (begins && initial)) ≡ true → task ≡ true
@@ -82,8 +92,8 @@ opened_current past event bracket unbroken keeps opens =
 
     created : (switch made started : Bool) → switch ≡ true → (not switch || (made && not started)) ≡ true → made ≡ true
     created true true started is may = refl
-    created true false started is may = absurd (cc)
-    created false made started is may = absurd (cc)
+    created true false started is may = absurd (true≢false (sym may))
+    created false made started is may = absurd (true≢false (sym is))
 
     by-flags : (region task actual index : ℕ) (first begins initial : Bool) (others rest : Bool) → begins ≡ true
         → cond first (begins && (initial && (others && ((task == 1) && rest)))) (not (begins && initial)) ≡ true
@@ -94,13 +104,13 @@ opened_current past event bracket unbroken keeps opens =
         let one : task ≡ 1 = eqb-true task 1 (initial_one first true true others (task == 1) rest refl refl may) in
         sym (no_place task (joins past) (rw one (initial_unjoined past unbroken)))
     by-flags region task actual index first true false others rest is may = rw (eq-eqb task task refl) refl
-    by-flags region task actual index first false initial others rest is may = absurd (cc)
+    by-flags region task actual index first false initial others rest is may = absurd (true≢false (sym is))
 
     by-call : (call : Call) → change_of call ≡ Opens bracket → keeps_tasks past event.thread call ≡ true → keeps_starts past call ≡ true
         → current_after call (running (joins past) (opened event.thread past))
         ≡ current_with (and_more (join_of call) (joins past)) (current_in (bracket ∷ opened event.thread past))
     by-call (ParallelBegin task frame region requested flags codeptr) is tasks starts =
-        plain (Parallel region.identity) (let e : Parallel region.identity ≡ bracket = cc in e) refl
+        plain (Parallel region.identity) (same_opened (Parallel region.identity) bracket is) refl
     by-call (Work kind endpoint region task count codeptr) is tasks starts = plain _ (at_opens endpoint _ bracket is).0 refl
     by-call (Masked endpoint region task codeptr) is tasks starts = plain _ (at_opens endpoint _ bracket is).0 refl
     by-call (SyncRegion kind endpoint region task codeptr) is tasks starts = plain _ (at_opens endpoint _ bracket is).0 refl
@@ -119,7 +129,8 @@ opened_current past event bracket unbroken keeps opens =
         subst (λ (b : Bracket). with_seat next.identity None ≡ current_with (joins past) (current_in (b ∷ opened event.thread past))) one.0
         (placed next.identity None (seat_in next.identity (joins past))
         (sym (no_place next.identity (joins past) (created_joined next.identity past unbroken made))))
-    by-call other is tasks starts = absurd (cc)
+    by-call (ParallelEnd region task flags codeptr) is tasks starts = absurd (closing_opens (Parallel region.identity) bracket is)
+    by-call other is tasks starts = absurd (staying_opens bracket is)
 
 -- ---- events that open none
 

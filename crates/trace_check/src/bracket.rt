@@ -3,7 +3,7 @@
 ghost use Rattle.std.specs.Prelude.{◌≡◌};
 
 /// What can be open on a thread, with the numbers of regions and tasks.
-#[derive(Clone, Copy, PartialEq, Eq)]
+#[derive(Clone, Copy)]
 pub enum Bracket {
     /// From `parallel_begin` to `parallel_end`: this region.
     Parallel(u32),

@@ -10,7 +10,7 @@ use omp_codes::task_statuses::{COMPLETE, SWITCH};
 use ompt_calls::Call;
 
 /// What an event does to the brackets of its thread.
-#[derive(Clone, Copy, PartialEq, Eq)]
+#[derive(Clone, Copy)]
 pub enum Change {
     /// It opens this bracket.
     Opens(Bracket),

@@ -5,7 +5,7 @@ ghost use Rattle.std.specs.Prelude.{◌≡◌};
 use crate::bracket::Bracket;
 
 /// Where an implicit task is in a team.
-#[derive(Clone, Copy, PartialEq, Eq)]
+#[derive(Clone, Copy)]
 pub(crate) struct Seat {
     /// The region that it joined.
     pub region: u32,
@@ -14,7 +14,7 @@ pub(crate) struct Seat {
 }
 
 /// The task that a thread runs.
-#[derive(Clone, Copy, PartialEq, Eq)]
+#[derive(Clone, Copy)]
 pub(crate) struct Current {
     /// Its number.
     pub task: u32,
@@ -23,14 +23,14 @@ pub(crate) struct Current {
 }
 
 /// What a thread asks for: a kind and a wait identifier.
-#[derive(Clone, Copy, PartialEq, Eq)]
+#[derive(Clone, Copy)]
 pub(crate) struct Asked {
     pub kind: u32,
     pub wait_id: u32,
 }
 
 /// A thread that began.
-#[derive(Clone, Copy, PartialEq, Eq)]
+#[derive(Clone, Copy)]
 pub(crate) struct Thread {
     /// Whether it has ended.
     pub ended: bool,
@@ -45,7 +45,7 @@ pub(crate) struct Thread {
 }
 
 /// An open bracket.
-#[derive(Clone, Copy, PartialEq, Eq)]
+#[derive(Clone, Copy)]
 pub(crate) struct Opened {
     pub bracket: Bracket,
     /// The task that its thread ran before it.
@@ -53,7 +53,7 @@ pub(crate) struct Opened {
 }
 
 /// A region that has no end yet.
-#[derive(Clone, Copy, PartialEq, Eq)]
+#[derive(Clone, Copy)]
 pub(crate) struct Region {
     /// The size of its team, once an implicit task has begun.
     pub actual: Option<u32>,
@@ -64,7 +64,7 @@ pub(crate) struct Region {
 }
 
 /// An implicit task of such a region.
-#[derive(Clone, Copy, PartialEq, Eq)]
+#[derive(Clone, Copy)]
 pub(crate) struct Member {
     /// Its number.
     pub task: u32,
@@ -77,7 +77,7 @@ pub(crate) struct Member {
 }
 
 /// A created task that isn't complete.
-#[derive(Clone, Copy, PartialEq, Eq)]
+#[derive(Clone, Copy)]
 pub(crate) struct Created {
     /// The task that created it.
     pub creator: Current,

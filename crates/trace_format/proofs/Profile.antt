@@ -1,11 +1,14 @@
 -- The callbacks of the profile, by their numbers: what holds of each of them, and how a callback is read again from its arguments.
-use Rattle.std.proofs.Common.{ℕ, ◌≡◌, ◌≢◌, ◌≤◌, ◌==◌, ◌||◌, true, List, [], ◌∷◌, map, inl, inr, refl, sym, ap, ◌∙◌, subst, arith}
+use Rattle.std.proofs.Common.{ℕ, zero, suc, ◌≡◌, ◌≢◌, ◌≤◌, ◌==◌, ◌||◌, true, List, [], ◌∷◌, map, inl, inr, refl, sym, ap, ◌∙◌, subst, arith}
 use Rattle.std.proofs.lemmas.Bool.{agree_below_at, and_parts, cases_lt, eqb-true, false_from_ne_true, leb-true, or_cases}
 use Rattle.std.proofs.lemmas.Nat.Bits.{bit_at_above}
 use Rattle.std.specs.Prelude.{nat_le}
 use Rattle.omp_codes.specs.Answers.{in_profile, within}
 use Rattle.omp_codes.specs.declared.callbacks.TheConstants.{PROFILE_MASK}
 use Rattle.ompt_calls.specs.declared.argument.Argument.{Argument}
+use Rattle.ompt_calls.specs.declared.argument.Argument.TheVariants as argument
+use Rattle.ompt_calls.specs.declared.call.Word.{Word}
+use Rattle.ompt_calls.specs.declared.call.Frame.{Frame}
 use Rattle.ompt_calls.specs.declared.call.Call.{Call}
 use Rattle.ompt_calls.specs.declared.call.Call.TheVariants.{ThreadBegin, ThreadEnd, ParallelBegin, ParallelEnd, TaskCreate, TaskSchedule, ImplicitTask, SyncRegionWait, MutexReleased, Work, Masked, SyncRegion, LockInit, LockDestroy, MutexAcquire, MutexAcquired, Dispatch}
 use Rattle.ompt_calls.specs.Arguments.{arguments_of}
@@ -96,25 +99,64 @@ profile_bits n = elim (cases_lt n 64) [
       rw (zero_bit, none) refl
 ]
 
+-- a callback of the same number with these arguments. Where an argument is missing or of another shape, a 0 stands for it
+abbrev argument_of : ℕ → List Argument → Argument
+argument_of n [] = argument.Short 0
+argument_of zero (first ∷ rest) = first
+argument_of (suc n) (first ∷ rest) = argument_of n rest
+
+abbrev short_in : Argument → ℕ
+short_in (argument.Short n) = n
+short_in other = 0
+
+abbrev long_in : Argument → ℕ
+long_in (argument.Long n) = n
+long_in other = 0
+
+abbrev word_in : Argument → Word
+word_in (argument.Word word) = word
+word_in other = record { identity = 0; value = 0 }
+
+abbrev frame_in : Argument → Frame
+frame_in (argument.Frame frame) = frame
+frame_in other = record { exit = 0; enter = 0 }
+
+module _ (args : List Argument) where
+  abbrev short : ℕ → ℕ
+  short n = short_in (argument_of n args)
+
+  abbrev long : ℕ → ℕ
+  long n = long_in (argument_of n args)
+
+  abbrev word : ℕ → Word
+  word n = word_in (argument_of n args)
+
+  abbrev frame : ℕ → Frame
+  frame n = frame_in (argument_of n args)
+
+  abbrev with_arguments : Call → Call
+  with_arguments (ThreadBegin _ _) = ThreadBegin (short 0) (word 1)
+  with_arguments (ThreadEnd _) = ThreadEnd (word 0)
+  with_arguments (ParallelBegin _ _ _ _ _ _) = ParallelBegin (word 0) (frame 1) (word 2) (short 3) (short 4) (long 5)
+  with_arguments (ParallelEnd _ _ _ _) = ParallelEnd (word 0) (word 1) (short 2) (long 3)
+  with_arguments (TaskCreate _ _ _ _ _ _) = TaskCreate (word 0) (frame 1) (word 2) (short 3) (short 4) (long 5)
+  with_arguments (TaskSchedule _ _ _) = TaskSchedule (word 0) (short 1) (word 2)
+  with_arguments (ImplicitTask _ _ _ _ _ _) = ImplicitTask (short 0) (word 1) (word 2) (short 3) (short 4) (short 5)
+  with_arguments (SyncRegionWait _ _ _ _ _) = SyncRegionWait (short 0) (short 1) (word 2) (word 3) (long 4)
+  with_arguments (MutexReleased _ _ _) = MutexReleased (short 0) (short 1) (long 2)
+  with_arguments (Work _ _ _ _ _ _) = Work (short 0) (short 1) (word 2) (word 3) (long 4) (long 5)
+  with_arguments (Masked _ _ _ _) = Masked (short 0) (word 1) (word 2) (long 3)
+  with_arguments (SyncRegion _ _ _ _ _) = SyncRegion (short 0) (short 1) (word 2) (word 3) (long 4)
+  with_arguments (LockInit _ _ _ _ _) = LockInit (short 0) (short 1) (short 2) (short 3) (long 4)
+  with_arguments (LockDestroy _ _ _) = LockDestroy (short 0) (short 1) (long 2)
+  with_arguments (MutexAcquire _ _ _ _ _) = MutexAcquire (short 0) (short 1) (short 2) (short 3) (long 4)
+  with_arguments (MutexAcquired _ _ _) = MutexAcquired (short 0) (short 1) (long 2)
+  with_arguments (Dispatch _ _ _ _ _) = Dispatch (word 0) (word 1) (short 2) (long 3) (long 4)
+
 -- the callback that bytes with these values at their places are
 pub call_at : (call : Call) (bytes : List ℕ) → made_from 0 (kinds_of (number_of call)) bytes ≡ arguments_of call → call_in (number_of call) bytes ≡ call
-call_at (ThreadBegin kind thread) bytes e = cc
-call_at (ThreadEnd thread) bytes e = cc
-call_at (ParallelBegin task frame region requested flags codeptr) bytes e = cc
-call_at (ParallelEnd region task flags codeptr) bytes e = cc
-call_at (TaskCreate task frame fresh flags has_dependences codeptr) bytes e = cc
-call_at (TaskSchedule prior status next) bytes e = cc
-call_at (ImplicitTask endpoint region task actual index flags) bytes e = cc
-call_at (SyncRegionWait kind endpoint region task codeptr) bytes e = cc
-call_at (MutexReleased kind wait_id codeptr) bytes e = cc
-call_at (Work kind endpoint region task count codeptr) bytes e = cc
-call_at (Masked endpoint region task codeptr) bytes e = cc
-call_at (SyncRegion kind endpoint region task codeptr) bytes e = cc
-call_at (LockInit kind hint variant wait_id codeptr) bytes e = cc
-call_at (LockDestroy kind wait_id codeptr) bytes e = cc
-call_at (MutexAcquire kind hint variant wait_id codeptr) bytes e = cc
-call_at (MutexAcquired kind wait_id codeptr) bytes e = cc
-call_at (Dispatch region task kind start iterations) bytes e = cc
+call_at (ThreadEnd thread) bytes e = ap (λ (args : List Argument). with_arguments args (ThreadEnd thread)) e
+call_at call bytes e = ap (λ (args : List Argument). with_arguments args call) e
 
 -- a callback is read again from its arguments
 pub call_again : (call : Call) → IsCall call → call_in (number_of call) (flat (arguments call)) ≡ call

@@ -66,81 +66,72 @@ fn frame_at(bytes: &[u8], place: usize) -> Frame
     }
 }
 
-/// The bytes of a callback's arguments, and how many of them were read.
-#[derive(Drop)]
-struct Fields<'a> {
-    bytes: &'a [u8],
-    place: usize,
+/// The number of 32 bits at this place, and the place behind it.
+fn next_short(bytes: &[u8], place: &mut usize) -> u32
+    requires { place.old + 4 ≤ length bytes.now }
+    ensures value { result ≡ short_at place.old bytes.now }
+    ensures place { place.new ≡ place.old + 4 }
+{
+    let at = *place;
+    *place += 4;
+    short_at(bytes, at)
 }
 
-impl Fields<'_> {
-    /// The number of 32 bits that comes next.
-    fn short(&mut self) -> u32
-        requires { self.old.place + 4 ≤ length self.old.bytes.now }
-        ensures value { result ≡ short_at self.old.place self.old.bytes.now }
-        ensures place { self.new ≡ record self.old { place = self.old.place + 4 } }
-    {
-        let place = self.place;
-        self.place += 4;
-        short_at(self.bytes, place)
-    }
-
-    /// The number of 64 bits that comes next.
-    fn long(&mut self) -> u64
-        requires { self.old.place + 8 ≤ length self.old.bytes.now }
-        ensures value { result ≡ long_at self.old.place self.old.bytes.now }
-        ensures place { self.new ≡ record self.old { place = self.old.place + 8 } }
-    {
-        let place = self.place;
-        self.place += 8;
-        long_at(self.bytes, place)
-    }
-
-    /// The data word that comes next.
-    fn word(&mut self) -> Word
-        requires { self.old.place + 12 ≤ length self.old.bytes.now }
-        ensures value { result ≡ word_at self.old.place self.old.bytes.now }
-        ensures place { self.new ≡ record self.old { place = self.old.place + 12 } }
-    {
-        let place = self.place;
-        self.place += 12;
-        word_at(self.bytes, place)
-    }
-
-    /// The frame that comes next.
-    fn frame(&mut self) -> Frame
-        requires { self.old.place + 8 ≤ length self.old.bytes.now }
-        ensures value { result ≡ frame_at self.old.place self.old.bytes.now }
-        ensures place { self.new ≡ record self.old { place = self.old.place + 8 } }
-    {
-        let place = self.place;
-        self.place += 8;
-        frame_at(self.bytes, place)
-    }
+/// The number of 64 bits at this place, and the place behind it.
+fn next_long(bytes: &[u8], place: &mut usize) -> u64
+    requires { place.old + 8 ≤ length bytes.now }
+    ensures value { result ≡ long_at place.old bytes.now }
+    ensures place { place.new ≡ place.old + 8 }
+{
+    let at = *place;
+    *place += 8;
+    long_at(bytes, at)
 }
 
-/// The argument that comes next.
+/// The data word at this place, and the place behind it.
+fn next_word(bytes: &[u8], place: &mut usize) -> Word
+    requires { place.old + 12 ≤ length bytes.now }
+    ensures value { result ≡ word_at place.old bytes.now }
+    ensures place { place.new ≡ place.old + 12 }
+{
+    let at = *place;
+    *place += 12;
+    word_at(bytes, at)
+}
+
+/// The frame at this place, and the place behind it.
+fn next_frame(bytes: &[u8], place: &mut usize) -> Frame
+    requires { place.old + 8 ≤ length bytes.now }
+    ensures value { result ≡ frame_at place.old bytes.now }
+    ensures place { place.new ≡ place.old + 8 }
+{
+    let at = *place;
+    *place += 8;
+    frame_at(bytes, at)
+}
+
+/// The argument at this place.
 macro_rules! next_of {
-    ($fields:expr, Short) => {
-        $fields.short()
+    ($bytes:expr, $place:expr, Short) => {
+        next_short($bytes, &mut $place)
     };
-    ($fields:expr, Long) => {
-        $fields.long()
+    ($bytes:expr, $place:expr, Long) => {
+        next_long($bytes, &mut $place)
     };
-    ($fields:expr, Word) => {
-        $fields.word()
+    ($bytes:expr, $place:expr, Word) => {
+        next_word($bytes, &mut $place)
     };
-    ($fields:expr, Frame) => {
-        $fields.frame()
+    ($bytes:expr, $place:expr, Frame) => {
+        next_frame($bytes, &mut $place)
     };
 }
 
-/// The callback of each row, of the arguments that come next.
+/// The callback of each row, of the arguments that come one after the other.
 macro_rules! call_by_row {
-    ($of:expr, $fields:expr; $($number:ident $variant:ident { $($field:ident: $form:ident),+ })+) => {
+    ($of:expr, $bytes:expr, $place:expr; $($number:ident $variant:ident { $($field:ident: $form:ident),+ })+) => {
         match $of {
             $(callbacks::$number => Call::$variant {
-                $($field: next_of!($fields, $form)),+
+                $($field: next_of!($bytes, $place, $form)),+
             },)+
             _ => unreachable!(),
         }
@@ -153,11 +144,8 @@ fn call_in(number: u32, args: &[u8]) -> Call
     requires whole { arguments_width number ≤ length args.now }
     ensures { IsCallIn number args.now result }
 {
-    let mut fields = Fields {
-        bytes: args,
-        place: 0,
-    };
-    by_callback!(call_by_row, number, fields)
+    let mut place = 0;
+    by_callback!(call_by_row, number, args, place)
 }
 
 /// The header that these bytes are.

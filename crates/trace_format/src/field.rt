@@ -1,7 +1,7 @@
 //! The fields of a trace.
 
 /// Which field of a trace it is.
-#[derive(Clone, Copy, Debug, PartialEq, Eq)]
+#[derive(Clone, Copy)]
 pub enum Field {
     /// The four bytes with which a trace begins.
     Magic,

@@ -10,7 +10,7 @@ use omp_codes::{
 };
 
 /// What a field of the arguments has, and so how long it is and which values it may have.
-#[derive(Clone, Copy, Debug, PartialEq, Eq)]
+#[derive(Clone, Copy)]
 pub enum Kind {
     /// Any number of 32 bits.
     Short,

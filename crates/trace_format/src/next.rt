@@ -4,7 +4,7 @@ ghost use Rattle.std.specs.Prelude.{◌≡◌, ◌≤◌, ◌-◌, Some, length,
 ghost use Rattle.byteorder.specs.Endian.{big_number};
 ghost use Rattle.trace_format.specs.Accepting.{kinds_of};
 ghost use Rattle.trace_format.specs.declared.kind.Kind.{Kind};
-ghost use Rattle.trace_format.specs.Flat.{HasNumber, IsFront, coming_at, end_coming, event_coming, header_coming, record_coming, stage_in, test_of};
+ghost use Rattle.trace_format.specs.Flat.{HasNumber, IsFront, argument_of, coming_at, end_coming, event_coming, header_coming, record_coming, stage_in, test_of};
 
 use crate::decode::{byte_at, half_at, short_at};
 use crate::field::Field;
@@ -100,15 +100,24 @@ fn event_field(least: u32, threads: u8, number: u32, place: u8, bytes: &[u8]) ->
         2 => (Field::Numbered(2), Test::Thread(threads)),
         3 => (Field::Numbered(3), Test::State),
         4 => (Field::Numbered(4), Test::Any),
-        _ => {
-            let at = usize::from(place) - 5;
-            match kinds_of(number).get(at) {
-                None => return None,
-                Some(kind) => (Field::Numbered(place), test_of(*kind, bytes)),
-            }
-        }
+        _ => return argument_field(number, place, bytes),
     };
     Some(Coming { field, test })
+}
+
+/// The field of an argument that comes next.
+fn argument_field(number: u32, place: u8, bytes: &[u8]) -> Option<Coming>
+    requires front { 5 ≤ place }
+    requires third { slice_get (kinds_of number) (place - 5) ≡ Some Kind.Iterations → 40 ≤ length bytes.now }
+    ensures { result ≡ argument_of place (slice_get (kinds_of number) (place - 5)) bytes.now }
+{
+    match kinds_of(number).get(usize::from(place) - 5) {
+        None => None,
+        Some(kind) => Some(Coming {
+            field: Field::Numbered(place),
+            test: test_of(*kind, bytes),
+        }),
+    }
 }
 
 /// The test of an argument of the kind.

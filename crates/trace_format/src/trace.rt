@@ -2,8 +2,7 @@
 
 ghost use Rattle.std.specs.Prelude.{◌≡◌};
 
-use ompt_calls::EventRecord;
-use std::marker::Model;
+use ompt_calls::{EventRecord, Sequence};
 
 /// The number below which the sequence numbers of a trace lie: a history has at most five entries for each of 524,288 turns.
 pub const SEQ_LIMIT: u32 = 2_621_440;
@@ -47,18 +46,8 @@ pub struct EndMark {
     pub count: u32,
 }
 
-/// The events of a trace, in order. Contracts see it as their list.
-#[derive(Drop)]
-pub struct Events(pub Vec<EventRecord>);
-
-impl Model for Events {
-    ghost use Rattle.std.specs.Prelude.{List};
-    ghost use Rattle.ompt_calls.specs.declared.event.EventRecord.{EventRecord};
-
-    ghost Value = { List EventRecord };
-
-    ghost view = { λ events. events.0.items };
-}
+/// The events of a trace, in order.
+pub type Events = Sequence<EventRecord>;
 
 /// A recorded run: its header, the events that were heard, and its end.
 #[derive(Drop)]

@@ -20,7 +20,8 @@ use crate::control::events::{
     synchronise,
 };
 use crate::item::Item;
-use crate::next::Next;
+use crate::next::{Next, made};
+use crate::node::Node;
 use c_model::View;
 
 impl Control {
@@ -64,18 +65,22 @@ impl Control {
     {
         match item {
             Item::Start(part) => self.begin_statement(code, cells, view, part),
-            Item::Declare(node) => self.declare(code, cells, view, node),
-            Item::Leave(names) => self.leave_block(code, cells, view, names),
-            Item::Test { node, names } => self.test_for(code, cells, view, node, names),
-            Item::Third { node, names } => self.third_for(code, cells, view, node, names),
-            Item::Initialise { node, entry } => {
-                self.begin_initialise(code, cells, view, node, entry)
+            Item::Declare(number) => made(self.declare(cells, view, Node { code, number })),
+            Item::Leave(names) => made(self.leave_block(code, cells, view, names)),
+            Item::Test { node, names } => {
+                made(self.test_for(cells, view, Node { code, number: node }, names))
             }
-            Item::Return(number) => self.returns(code, cells, view, number),
-            Item::FallOff => self.returns(code, cells, view, 0),
-            Item::Forked(node) => end_parallel(code, node),
-            Item::Inside(node) => self.begin_inside(code, cells, view, node),
-            Item::MakeCells(node) => self.make_cells(code, cells, view, node),
+            Item::Third { node, names } => {
+                made(self.third_for(cells, view, Node { code, number: node }, names))
+            }
+            Item::Initialise { node, entry } => {
+                made(self.begin_initialise(cells, view, Node { code, number: node }, entry))
+            }
+            Item::Return(number) => made(self.returns(code, cells, view, number)),
+            Item::FallOff => made(self.returns(code, cells, view, 0)),
+            Item::Forked(number) => end_parallel(Node { code, number }),
+            Item::Inside(number) => self.begin_inside(cells, view, Node { code, number }),
+            Item::MakeCells(number) => self.make_cells(cells, view, Node { code, number }),
             Item::NextChunk(shared) => next_chunk(shared),
             Item::Iterations { shared, at, upto } => {
                 self.begin_iteration(code, cells, view, shared, at, upto)
@@ -91,13 +96,15 @@ impl Control {
                 kind,
                 count,
                 ..
-            } => end_work(code, node, kind, count),
-            Item::EndMasked(node) => end_masked(code, node),
-            Item::Sync { node, kind, stage } => synchronise(code, node, kind, stage),
-            Item::Acquire { node, kind, id } => acquire(code, node, kind, id),
-            Item::Release { node, id } => release(code, node, id),
+            } => end_work(Node { code, number: node }, kind, count),
+            Item::EndMasked(number) => end_masked(Node { code, number }),
+            Item::Sync { node, kind, stage } => {
+                synchronise(Node { code, number: node }, kind, stage)
+            }
+            Item::Acquire { node, kind, id } => acquire(Node { code, number: node }, kind, id),
+            Item::Release { node, id } => release(Node { code, number: node }, id),
             Item::TestLock { node, id, .. } => ask_lock(node, id),
-            Item::Tested(to) => self.end_test(code, cells, view, to),
+            Item::Tested(to) => made(self.end_test(code, cells, view, to)),
         }
     }
 }

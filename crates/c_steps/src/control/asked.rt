@@ -14,6 +14,7 @@ use crate::code::Code;
 use crate::control::Control;
 use crate::control::giving::MEMBER_0;
 use crate::item::Item;
+use crate::node::Node;
 
 impl Control {
     /// How many iterations the loop has that asks for a chunk next. 0 where none does.
@@ -49,7 +50,7 @@ fn sections_of_item(code: &Code, item: Option<Item>) -> u32
     ensures { result ≡ sections_of_item (option_map (item_at code.now) item) }
 {
     match item {
-        Some(Item::NextSection { node, .. }) => section_count(code, node),
+        Some(Item::NextSection { node, .. }) => section_count(Node { code, number: node }),
         _ => 0,
     }
 }

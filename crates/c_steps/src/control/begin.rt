@@ -10,9 +10,9 @@ ghost use Rattle.c_steps.specs.declared.control.begin.TheConstants.{STEPS};
 use crate::code::Code;
 use crate::control::Control;
 use crate::item::Item;
-use crate::names::Names;
 use crate::stack::Stack;
 use c_model::Target;
+use kept_room::Roomy;
 use std::alloc::{AllocError, Global};
 
 /// For how many silent steps [`Control::reserve`] makes room: the 64 of a turn, one that only asks, and one to look at
@@ -51,7 +51,7 @@ impl Control {
         ensures made { IfOk result (IsMadeFor code.now) }
     {
         let stack = Stack::new(alloc)?;
-        let mut names = Names::new(alloc);
+        let mut names = Roomy::new(alloc);
         let room = code.width();
         names.reserve(room)?;
         Ok(Control {

@@ -1,8 +1,7 @@
 //! Calls and returns, and the calls of lock routines.
 
-ghost use Rattle.std.specs.Prelude.{◌≡◌, ◌<◌, ◌+◌, length, IfSome, Some};
+ghost use Rattle.std.specs.Prelude.{◌≡◌, ◌<◌, ◌+◌, Some, Err};
 ghost use Rattle.c_syntax.specs.language.Tree.{kind_of, name_of};
-ghost use Rattle.c_syntax.specs.language.Numbered.{tree_at};
 ghost use Rattle.c_check.specs.Loops.{child_at};
 ghost use Rattle.c_model.specs.declared.limits.TheConstants.{LOCK_UNIT};
 ghost use Rattle.c_model.specs.Calls as calls;
@@ -10,60 +9,69 @@ ghost use Rattle.c_model.specs.Cells.{entry_of};
 ghost use Rattle.c_model.specs.Parts.{parts};
 ghost use Rattle.c_model.specs.Value.{all_values};
 ghost use Rattle.c_steps.specs.Arguments.{without_values};
-ghost use Rattle.c_steps.specs.ControlView.{env_at, here_at, next_of_call, scope_in};
+ghost use Rattle.c_steps.specs.ControlView.{env_at, here_at, next_of, scope_in};
+ghost use Rattle.c_steps.specs.Forms.{MakesBy, TellsBy};
+ghost use Rattle.c_steps.specs.Entering.{IsCall};
 ghost use Rattle.c_steps.specs.Moves.{cells_given, closed, delivered, env_with, given_back, last_call};
+ghost use Rattle.c_steps.specs.NodeTrees.{tree_of};
 ghost use Rattle.c_steps.specs.Nodes.{IsPart, part_at};
 ghost use Rattle.c_steps.specs.Ready.{IsStepping};
 ghost use Rattle.c_steps.specs.Rooming.{IsEntry};
 ghost use Rattle.c_steps.specs.Views.{HasNumbers};
-ghost use Rattle.c_steps.specs.Steps.{Advances, CanStep, Tells};
-ghost use Rattle.c_steps.specs.Trying.{IsAttempt};
+ghost use Rattle.c_steps.specs.Steps.{CanStep, Makes};
 
 use crate::cells::Cells;
 use crate::code::Code;
 use crate::control::Control;
 use crate::item::Item;
-use crate::next::{Next, Refusal, begun_call};
+use crate::next::{Made, Next, Refusal};
+use crate::node::Node;
 use crate::parts::part_count;
 use c_model::{CALL_LIMIT, CALLS, CELLS, Entry, LOCK_UNIT, MutexKind, Point, Target, View};
 use c_syntax::{LockCall, NodeKind};
 
+/// A call that begins.
+#[derive(Clone, Copy)]
+pub(crate) struct Call {
+    /// Its node. One that is missing has neither function nor arguments.
+    pub(super) part: Option<u32>,
+    /// The variable of a declarator that comes into scope behind the call.
+    pub(super) declared: Option<Entry>,
+    /// Where its value goes.
+    pub(super) to: Target,
+}
+
 impl Control {
     /// A call that is a statement.
-    pub(super) fn begin_called(
-        &mut self,
-        code: &Code,
-        cells: &mut Cells,
-        view: View,
-        node: u32,
-    ) -> Next
-        requires ready { CanStep code.now view self.old }
-        requires node { node < length code.now.trees }
-        ensures { Advances code.now result self.old cells.old self.new cells.new
-            (calls.begin_called (here_at code.now view self.old cells.old) (tree_at code.now.trees node)) }
+    #[inline(always)]
+    pub(super) fn begin_called(&mut self, cells: &mut Cells, view: View, node: Node) -> Made
+        requires { CanStep node.code.now view self.old }
+        ensures { MakesBy calls.begin_called node.entry view result self.old cells.old self.new cells.new }
     {
-        let call = code.child(Some(node), 0);
-        self.begin_right(code, cells, view, call, None, Target::Nowhere)
+        let call = Call {
+            part: node.child(0),
+            declared: None,
+            to: Target::Nowhere,
+        };
+        self.begin_right(node.code, cells, view, call)
     }
 
     /// An assignment of a call: first the cell, and then the call.
-    pub(super) fn begin_set_call(
-        &mut self,
-        code: &Code,
-        cells: &mut Cells,
-        view: View,
-        node: u32,
-    ) -> Next
-        requires ready { CanStep code.now view self.old }
-        requires node { node < length code.now.trees }
-        ensures { Advances code.now result self.old cells.old self.new cells.new
-            (calls.begin_set_call (here_at code.now view self.old cells.old) (tree_at code.now.trees node)) }
+    #[inline(always)]
+    pub(super) fn begin_set_call(&mut self, cells: &mut Cells, view: View, node: Node) -> Made
+        requires { CanStep node.code.now view self.old }
+        ensures { MakesBy calls.begin_set_call node.entry view result self.old cells.old self.new cells.new }
     {
-        match self.place_cell(code, cells, view, code.child(Some(node), 0)) {
-            Err(trap) => Next::Trap(trap),
+        let code = node.code;
+        match self.place_cell(code, cells, view, node.child(0)) {
+            Err(trap) => Err(Refusal::Trap(trap)),
             Ok(cell) => {
-                let call = code.child(Some(node), 1);
-                self.begin_right(code, cells, view, call, None, Target::Cell(cell as u32))
+                let call = Call {
+                    part: node.child(1),
+                    declared: None,
+                    to: Target::Cell(cell as u32),
+                };
+                self.begin_right(code, cells, view, call)
             }
         }
     }
@@ -72,163 +80,102 @@ impl Control {
     #[inline(never)]
     pub(super) fn begin_initialise(
         &mut self,
-        code: &Code,
         cells: &mut Cells,
         view: View,
-        node: u32,
+        node: Node,
         entry: Entry,
-    ) -> Next
-        requires ready { CanStep code.now view self.old }
-        requires node { (node < length code.now.trees) × IsEntry entry }
-        ensures { Advances code.now result self.old cells.old self.new cells.new
-            (calls.begin_initialise (here_at code.now view self.old cells.old) (tree_at code.now.trees node) entry) }
+    ) -> Made
+        requires ready { CanStep node.code.now view self.old }
+        requires entry { IsEntry entry }
+        ensures { MakesBy (λ here tree. calls.begin_initialise here tree entry)
+            node.entry view result self.old cells.old self.new cells.new }
     {
-        let call = code.child(Some(node), 0);
-        let to = Target::Cell(entry.first);
-        self.begin_right(code, cells, view, call, Some(entry), to)
+        let call = Call {
+            part: node.child(0),
+            declared: Some(entry),
+            to: Target::Cell(entry.first),
+        };
+        self.begin_right(node.code, cells, view, call)
     }
 
     /// `return`, of nothing, of a call, or of an expression.
-    pub(super) fn begin_return(
-        &mut self,
-        code: &Code,
-        cells: &mut Cells,
-        view: View,
-        node: u32,
-    ) -> Next
-        requires ready { CanStep code.now view self.old }
-        requires node { node < length code.now.trees }
-        ensures { Advances code.now result self.old cells.old self.new cells.new
-            (calls.begin_return (here_at code.now view self.old cells.old) (tree_at code.now.trees node)) }
+    #[inline(always)]
+    pub(super) fn begin_return(&mut self, cells: &mut Cells, view: View, node: Node) -> Made
+        requires { CanStep node.code.now view self.old }
+        ensures { MakesBy calls.begin_return node.entry view result self.old cells.old self.new cells.new }
     {
-        let right = code.child(Some(node), 0);
+        let (code, right) = (node.code, node.child(0));
         match code.kind(right) {
             NodeKind::Call | NodeKind::TestLock => {
-                self.begin_right(code, cells, view, right, None, Target::Return)
+                let call = Call {
+                    part: right,
+                    declared: None,
+                    to: Target::Return,
+                };
+                self.begin_right(code, cells, view, call)
             }
             _ => match self.value(code, cells, view, right) {
-                Err(trap) => Next::Trap(trap),
+                Err(trap) => Err(Refusal::Trap(trap)),
                 Ok(number) => self.returns(code, cells, view, number),
             },
         }
     }
 
     /// What stands where a call may stand. A declarator's variable comes into scope behind it.
-    fn begin_right(
-        &mut self,
-        code: &Code,
-        cells: &mut Cells,
-        view: View,
-        call: Option<u32>,
-        declared: Option<Entry>,
-        to: Target,
-    ) -> Next
+    #[inline(always)]
+    fn begin_right(&mut self, code: &Code, cells: &mut Cells, view: View, call: Call) -> Made
         requires ready { CanStep code.now view self.old }
-        requires call { IsPart code.now.trees call × IfSome declared IsEntry }
-        ensures { Advances code.now result self.old cells.old self.new cells.new
-            (calls.begin_right (kind_of (part_at code.now.trees call)) (here_at code.now view self.old cells.old)
-            (part_at code.now.trees call) (env_with declared (env_at code.now self.old)) to) }
+        requires call { IsCall code.now call }
+        ensures { Makes code.now result self.old cells.old self.new cells.new
+            (calls.begin_right (kind_of (part_at code.now.trees call.part)) (here_at code.now view self.old cells.old)
+            (part_at code.now.trees call.part) (env_with call.declared (env_at code.now self.old)) call.to) }
     {
-        match call {
-            Some(node) => match code.kind(call) {
-                NodeKind::TestLock => self.begin_test(code, cells, view, node, to),
-                _ => self.begin_call(code, cells, view, call, declared, to),
+        match code.kind(call.part) {
+            NodeKind::TestLock => match call.part {
+                Some(number) => Err(self.lock_test(cells, view, Node { code, number }, call.to)),
+                None => unreachable!(),
             },
-            None => self.begin_call(code, cells, view, call, declared, to),
+            _ => self.start_call(code, cells, view, call),
         }
     }
 
-    /// `omp_test_lock` begins with its event.
+    /// What an `omp_test_lock` begins with.
     #[inline(never)]
-    fn begin_test(&self, code: &Code, cells: &Cells, view: View, call: u32, to: Target) -> Next
-        requires { call < length code.now.trees }
-        ensures { Tells code.now result
-            (calls.begin_test (here_at code.now view self.now cells.now) (tree_at code.now.trees call) to) }
+    fn lock_test(&self, cells: &Cells, view: View, call: Node, to: Target) -> Refusal
+        ensures { TellsBy (λ here tree. calls.begin_test here tree to) call.entry view
+            (next_of (Err result)) self.now cells.now }
     {
-        let point = Point::MutexAcquire {
-            codeptr: code.place(call),
-            wait_id: self.lock_id(code, call),
-            kind: MutexKind::TestLock,
+        Refusal::Test {
+            call: call.number,
+            codeptr: call.place(),
+            wait_id: self.lock_id(call),
             to,
-        };
-        Next::Event(point, call)
+        }
     }
 
     /// The wait identifier of the lock that a call names.
-    fn lock_id(&self, code: &Code, call: u32) -> u32
-        requires { call < length code.now.trees }
-        ensures { result ≡ LOCK_UNIT + (entry_of (env_at code.now self.now)
-            (name_of (child_at (tree_at code.now.trees call) 0))).first }
+    fn lock_id(&self, call: Node) -> u32
+        ensures { result ≡ LOCK_UNIT + (entry_of (env_at call.entry.code.now self.now)
+            (name_of (child_at (tree_of call.entry) 0))).first }
     {
-        let name = code.name(code.child(Some(call), 0));
-        LOCK_UNIT + self.entry(code, name).first
+        let name = call.code.name(call.child(0));
+        LOCK_UNIT + self.entry(call.code, name).first
     }
 
-    /// The start of a call: its arguments, from left to right, and then the function's body stands next. A declarator's variable comes into scope
-    /// behind it.
+    /// The start of a call: its arguments, from left to right, and then the function's body stands next, unless an argument traps or a limit
+    /// would be passed. A declarator's variable comes into scope behind it.
     #[inline(never)]
-    fn begin_call(
-        &mut self,
-        code: &Code,
-        cells: &mut Cells,
-        view: View,
-        call: Option<u32>,
-        declared: Option<Entry>,
-        to: Target,
-    ) -> Next
+    fn start_call(&mut self, code: &Code, cells: &mut Cells, view: View, call: Call) -> Made
         requires ready { CanStep code.now view self.old }
-        requires call { IsPart code.now.trees call × IfSome declared IsEntry }
-        ensures { Advances code.now result self.old cells.old self.new cells.new
-            (calls.begin_call (here_at code.now view self.old cells.old) (part_at code.now.trees call)
-            (env_with declared (env_at code.now self.old)) to) }
+        requires call { IsCall code.now call }
+        ensures { Makes code.now result self.old cells.old self.new cells.new
+            (calls.begin_call (here_at code.now view self.old cells.old) (part_at code.now.trees call.part)
+            (env_with call.declared (env_at code.now self.old)) call.to) }
     {
-        begun_call(self.start_call(code, cells, view, call, declared, to))
-    }
-
-    /// A call whose value goes there is tried, if it isn't that of `omp_test_lock`.
-    #[tactic(auto, using(crate::proofs::Trying::call_attempt))]
-    #[inline(always)]
-    pub(super) fn try_call(
-        &mut self,
-        code: &Code,
-        cells: &mut Cells,
-        view: View,
-        call: Option<u32>,
-        to: Target,
-    ) -> bool
-        requires ready { CanStep code.now view self.old }
-        requires call { IsPart code.now.trees call }
-        ensures { IsAttempt code.now result self.old cells.old self.new cells.new
-            (calls.begin_right (kind_of (part_at code.now.trees call)) (here_at code.now view self.old cells.old)
-            (part_at code.now.trees call) (env_at code.now self.old) to) }
-    {
-        match code.kind(call) {
-            NodeKind::TestLock => false,
-            _ => self.start_call(code, cells, view, call, None, to).is_ok(),
-        }
-    }
-
-    /// A call starts, unless an argument traps or a limit would be passed.
-    #[inline(never)]
-    fn start_call(
-        &mut self,
-        code: &Code,
-        cells: &mut Cells,
-        view: View,
-        call: Option<u32>,
-        declared: Option<Entry>,
-        to: Target,
-    ) -> Result<(), Refusal>
-        requires ready { CanStep code.now view self.old }
-        requires call { IsPart code.now.trees call × IfSome declared IsEntry }
-        ensures { Advances code.now (next_of_call result) self.old cells.old self.new cells.new
-            (calls.begin_call (here_at code.now view self.old cells.old) (part_at code.now.trees call)
-            (env_with declared (env_at code.now self.old)) to) }
-    {
-        match self.check_arguments(code, cells, view, call) {
+        match self.check_arguments(code, cells, view, call.part) {
             Err(trap) => Err(Refusal::Trap(trap)),
             Ok(()) => {
-                let function = code.function(code.name(call));
+                let function = code.function(code.name(call.part));
                 let parameters = part_count(code.tree(), code.child(function, 1));
                 if !cells.has_room(parameters as usize) {
                     return Err(Refusal::Limit(CELLS));
@@ -236,7 +183,7 @@ impl Control {
                 if self.open_calls >= CALL_LIMIT {
                     return Err(Refusal::Limit(CALLS));
                 }
-                self.enter(code, cells, view, call, function, declared, to);
+                self.enter(code, cells, view, call, function);
                 Ok(())
             }
         }
@@ -265,20 +212,14 @@ impl Control {
     /// A function returns this number: the call that was begun last has ended.
     #[inline(always)]
     #[tactic(auto, using(crate::proofs::Returning::returned_is, crate::proofs::Returning::returned_after))]
-    pub(super) fn returns(
-        &mut self,
-        code: &Code,
-        cells: &mut Cells,
-        view: View,
-        number: i32,
-    ) -> Next
+    pub(super) fn returns(&mut self, code: &Code, cells: &mut Cells, view: View, value: i32) -> Made
         requires { IsStepping code.now self.old }
-        ensures { Advances code.now result self.old cells.old self.new cells.new
-            (calls.returns (here_at code.now view self.old cells.old) number) }
+        ensures { Makes code.now result self.old cells.old self.new cells.new
+            (calls.returns (here_at code.now view self.old cells.old) value) }
     {
         self.step();
-        self.give_back(cells, number);
-        Next::Quiet
+        self.give_back(cells, value);
+        Ok(())
     }
 
     /// The call that was opened last is closed, if one is open, and its value goes to its target.
@@ -317,32 +258,28 @@ impl Control {
         cells: &mut Cells,
         view: View,
         to: Target,
-    ) -> Next
+    ) -> Made
         requires { IsStepping code.now self.old }
-        ensures { Advances code.now result self.old cells.old self.new cells.new
+        ensures { Makes code.now result self.old cells.old self.new cells.new
             (calls.ends_test (here_at code.now view self.old cells.old) to) }
     {
         self.step();
         self.deliver(cells, to, 1);
-        Next::Quiet
+        Ok(())
     }
 
     /// A lock routine that gives nothing.
     #[inline(never)]
     pub(super) fn begin_lock_call(
         &self,
-        code: &Code,
         cells: &Cells,
         view: View,
         which: LockCall,
-        node: u32,
+        node: Node,
     ) -> Next
-        requires { node < length code.now.trees }
-        ensures { Tells code.now result
-            (calls.begin_lock_call which (here_at code.now view self.now cells.now) (tree_at code.now.trees node)) }
+        ensures { TellsBy (calls.begin_lock_call which) node.entry view result self.now cells.now }
     {
-        let codeptr = code.place(node);
-        let wait_id = self.lock_id(code, node);
+        let (codeptr, wait_id) = (node.place(), self.lock_id(node));
         let point = match which {
             LockCall::Init => Point::LockInit { codeptr, wait_id },
             LockCall::Destroy => Point::LockDestroy { codeptr, wait_id },
@@ -358,6 +295,6 @@ impl Control {
                 kind: MutexKind::Lock,
             },
         };
-        Next::Event(point, node)
+        Next::Event(point, node.number)
     }
 }

@@ -8,7 +8,7 @@ ghost use Rattle.c_model.specs.Parts.{parts};
 ghost use Rattle.c_model.specs.Program.{parameters_of};
 ghost use Rattle.c_model.specs.Value.{all_values};
 ghost use Rattle.c_steps.specs.Arguments.{values_in};
-ghost use Rattle.c_steps.specs.Entering.{BindsParameter, HasMore, HaveNoTrap, IsCaller, IsNextArgument, arguments_from, bound_at, caller_scope, moment_entered};
+ghost use Rattle.c_steps.specs.Entering.{BindsParameter, HasMore, HaveNoTrap, IsCall, IsCaller, IsNextArgument, arguments_from, bound_at, caller_scope, moment_entered};
 ghost use Rattle.c_steps.specs.ControlView.{env_at, here_at, moment_at, scope_in};
 ghost use Rattle.c_steps.specs.Moves.{bound_if, env_with};
 ghost use Rattle.c_steps.specs.Nodes.{IsPart, part_at};
@@ -21,10 +21,11 @@ ghost use Rattle.c_steps.specs.Views.{HasNumbers};
 use crate::cells::Cells;
 use crate::code::Code;
 use crate::control::Control;
+use crate::control::calls::Call;
 use crate::evaluate::Argument;
 use crate::item::Item;
 use crate::scope::Scope;
-use c_model::{Entry, Target, View};
+use c_model::{Entry, View};
 
 /// The names and the cells of a function that calls, as they were when the call began.
 #[derive(Clone, Copy)]
@@ -44,32 +45,29 @@ impl Control {
         code: &Code,
         cells: &mut Cells,
         view: View,
-        call: Option<u32>,
+        call: Call,
         function: Option<u32>,
-        declared: Option<Entry>,
-        to: Target,
     )
         requires ready { CanStep code.now view self.old }
-        requires call { IsPart code.now.trees call }
+        requires call { IsCall code.now call }
         requires function { IsPart code.now.trees function }
-        requires declared { IfSome declared IsEntry }
-        requires values { HaveNoTrap (scope_in code.now view self.old cells.old) (part_at code.now.trees call) 0 }
+        requires values { HaveNoTrap (scope_in code.now view self.old cells.old) (part_at code.now.trees call.part) 0 }
         requires few { open_calls self.old.frames < CALL_LIMIT }
         requires room { length cells.old.cells + length (parameters_of (part_at code.now.trees function)) ≤ CELL_LIMIT }
         ensures step { moment_at code.now self.new cells.new ≡ moment_entered (here_at code.now view self.old cells.old)
             (part_at code.now.trees function) (open_call (here_at code.now view self.old cells.old)
-            (env_with declared (env_at code.now self.old)) to) (bound_in (here_at code.now view self.old cells.old)
+            (env_with call.declared (env_at code.now self.old)) call.to) (bound_in (here_at code.now view self.old cells.old)
             (part_at code.now.trees function) (values_in (all_values (scope_in code.now view self.old cells.old)
-            (parts (part_at code.now.trees call))))) }
+            (parts (part_at code.now.trees call.part))))) }
         ensures settled { IsAfterStep self.old self.new }
         ensures frames { AreFrames code.now self.new.frames }
     {
         let caller = self.caller(cells);
         self.step();
-        self.bind_if(declared);
-        self.open(to);
+        self.bind_if(call.declared);
+        self.open(call.to);
         let parameters = code.child(function, 1);
-        self.bind_parameters(code, cells, view, caller, call, parameters);
+        self.bind_parameters(code, cells, view, caller, call.part, parameters);
         self.then(Item::FallOff);
         self.then(Item::Start(code.child(function, 2)));
     }

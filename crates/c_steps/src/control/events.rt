@@ -1,6 +1,6 @@
 //! Events of constructs and directives, and what is asked: nothing changes at them.
 
-ghost use Rattle.std.specs.Prelude.{◌≡◌, ◌<◌, length};
+ghost use Rattle.std.specs.Prelude.{◌≡◌};
 ghost use Rattle.c_syntax.specs.language.Tree.{kind_of};
 ghost use Rattle.c_syntax.specs.language.Numbered.{tree_at};
 ghost use Rattle.c_model.specs.Constructs as constructs;
@@ -15,19 +15,20 @@ ghost use Rattle.c_model.specs.declared.question.Ask.TheVariants as ask;
 ghost use Rattle.c_model.specs.Loops.{loop_of};
 ghost use Rattle.c_model.specs.Program.{place_of};
 ghost use Rattle.c_model.specs.Task.Outcome.{Asks, Occurs};
-ghost use Rattle.c_steps.specs.ControlView.{here_at};
+ghost use Rattle.c_steps.specs.Forms.{AdvancesBy, TellsBy, TellsOf};
 ghost use Rattle.c_steps.specs.Items.{loop_at};
 ghost use Rattle.c_steps.specs.LoopNodes.{GoesOn, parts_at};
+ghost use Rattle.c_steps.specs.NodeTrees.{tree_of};
 ghost use Rattle.c_steps.specs.Views.{HasNumbers};
-ghost use Rattle.c_steps.specs.Steps.{Advances, CanStep, Tells};
+ghost use Rattle.c_steps.specs.Steps.{CanStep, Tells};
 
 use crate::cells::Cells;
-use crate::clauses::{condition, requested_threads, schedule, section_count};
-use crate::code::Code;
+use crate::clauses::{Expression, clause_expression, schedule, section_count};
 use crate::control::Control;
 use crate::item::Loop;
 use crate::loops::{LoopNodes, iteration_count, loop_nodes};
-use crate::next::Next;
+use crate::next::{Next, made};
+use crate::node::Node;
 use c_model::{
     Ask, CELLS, MutexKind, Point, Schedule, SyncKind, SyncStage, Target, View, Work, WorkKind,
 };
@@ -35,17 +36,15 @@ use c_syntax::{Directive, NodeKind, Standalone};
 
 impl Control {
     /// The construct that a combined directive has inside begins.
-    pub(super) fn begin_inside(&mut self, code: &Code, cells: &Cells, view: View, node: u32) -> Next
-        requires ready { CanStep code.now view self.old }
-        requires node { node < length code.now.trees }
-        ensures { Advances code.now result self.old cells.now self.new cells.now
-            (steps.begin_inside (kind_of (tree_at code.now.trees node)) (here_at code.now view self.old cells.now)
-            (tree_at code.now.trees node)) }
+    pub(super) fn begin_inside(&mut self, cells: &Cells, view: View, node: Node) -> Next
+        requires { CanStep node.code.now view self.old }
+        ensures { AdvancesBy (λ here tree. steps.begin_inside (kind_of tree) here tree)
+            node.entry view result self.old cells.now self.new cells.now }
     {
-        match code.kind(Some(node)) {
-            NodeKind::Construct(Directive::ParallelFor) => self.begin_loop(code, cells, view, node),
-            NodeKind::Construct(Directive::ParallelSections) => begin_sections(code, node),
-            _ => self.begin_empty(code, cells, view),
+        match node.kind() {
+            NodeKind::Construct(Directive::ParallelFor) => self.begin_loop(cells, view, node),
+            NodeKind::Construct(Directive::ParallelSections) => begin_sections(node),
+            _ => made(self.begin_empty(node.code, cells, view)),
         }
     }
 
@@ -53,119 +52,105 @@ impl Control {
     #[inline(never)]
     pub(super) fn begin_construct(
         &self,
-        code: &Code,
         cells: &Cells,
         view: View,
         directive: Directive,
-        node: u32,
+        node: Node,
     ) -> Next
-        requires node { node < length code.now.trees }
-        requires view { HasNumbers view }
-        ensures { Tells code.now result
-            (steps.begin_construct directive (here_at code.now view self.now cells.now) (tree_at code.now.trees node)) }
+        requires { HasNumbers view }
+        ensures { TellsBy (steps.begin_construct directive) node.entry view result self.now cells.now }
     {
         match directive {
             Directive::Parallel | Directive::ParallelFor | Directive::ParallelSections => {
-                self.begin_parallel(code, cells, view, node)
+                self.begin_parallel(cells, view, node)
             }
-            Directive::For => self.begin_loop(code, cells, view, node),
-            Directive::Sections => begin_sections(code, node),
-            Directive::Single => begin_single(code, node),
-            Directive::Masked | Directive::Master => begin_masked(code, node),
-            Directive::Critical => begin_critical(code, node),
-            Directive::Task => self.begin_task(code, cells, view, node),
+            Directive::For => self.begin_loop(cells, view, node),
+            Directive::Sections => begin_sections(node),
+            Directive::Single => begin_single(node),
+            Directive::Masked | Directive::Master => begin_masked(node),
+            Directive::Critical => begin_critical(node),
+            Directive::Task => self.begin_task(cells, view, node),
         }
     }
 
     /// A region is forked. Without `num_threads` as many threads are asked for as a run may have.
-    fn begin_parallel(&self, code: &Code, cells: &Cells, view: View, node: u32) -> Next
-        requires node { node < length code.now.trees }
-        requires view { HasNumbers view }
-        ensures { Tells code.now result
-            (constructs.begin_parallel (here_at code.now view self.now cells.now) (tree_at code.now.trees node)) }
+    fn begin_parallel(&self, cells: &Cells, view: View, node: Node) -> Next
+        requires { HasNumbers view }
+        ensures { TellsBy constructs.begin_parallel node.entry view result self.now cells.now }
     {
-        match requested_threads(code, node) {
-            None => fork(code, node, view.max as i32),
-            Some(expression) => match self.value(code, cells, view, expression) {
+        match clause_expression(node, Expression::NumThreads) {
+            None => fork(node, view.max as i32),
+            Some(expression) => match self.value(node.code, cells, view, expression) {
                 Err(trap) => Next::Trap(trap),
-                Ok(requested) => fork(code, node, requested),
+                Ok(requested) => fork(node, requested),
             },
         }
     }
 
     /// An explicit task is made. A task whose `if` clause gives 0 is undeferred.
-    fn begin_task(&self, code: &Code, cells: &Cells, view: View, node: u32) -> Next
-        requires node { node < length code.now.trees }
-        requires view { HasNumbers view }
-        ensures { Tells code.now result
-            (constructs.begin_task (here_at code.now view self.now cells.now) (tree_at code.now.trees node)) }
+    fn begin_task(&self, cells: &Cells, view: View, node: Node) -> Next
+        requires { HasNumbers view }
+        ensures { TellsBy constructs.begin_task node.entry view result self.now cells.now }
     {
-        match condition(code, node) {
-            None => self.create(code, cells, view, node, 1),
-            Some(expression) => match self.value(code, cells, view, expression) {
+        match clause_expression(node, Expression::If) {
+            None => self.create(cells, view, node, 1),
+            Some(expression) => match self.value(node.code, cells, view, expression) {
                 Err(trap) => Next::Trap(trap),
-                Ok(number) => self.create(code, cells, view, node, number),
+                Ok(number) => self.create(cells, view, node, number),
             },
         }
     }
 
     /// A task is made whose `if` clause gives this number, if there is room for its cells.
-    fn create(&self, code: &Code, cells: &Cells, view: View, node: u32, number: i32) -> Next
-        requires node { node < length code.now.trees }
-        requires view { HasNumbers view }
-        ensures { Tells code.now result
-            (constructs.creates (here_at code.now view self.now cells.now) (tree_at code.now.trees node) number) }
+    fn create(&self, cells: &Cells, view: View, node: Node, number: i32) -> Next
+        requires { HasNumbers view }
+        ensures { TellsBy (λ here tree. constructs.creates here tree number)
+            node.entry view result self.now cells.now }
     {
-        if !self.has_task_room(code, cells, view, node) {
+        if !self.has_task_room(cells, view, node) {
             return Next::Limit(CELLS);
         }
-        let undeferred = number == 0;
         let point = Point::TaskCreate {
-            codeptr: code.place(node),
-            undeferred,
+            codeptr: node.place(),
+            undeferred: number == 0,
         };
-        Next::Event(point, node)
+        Next::Event(point, node.number)
     }
 
     /// A loop that is shared out begins with its start and its end.
-    pub(super) fn begin_loop(&self, code: &Code, cells: &Cells, view: View, node: u32) -> Next
-        requires node { node < length code.now.trees }
-        requires view { HasNumbers view }
-        ensures { Tells code.now result
-            (constructs.begin_loop (here_at code.now view self.now cells.now) (tree_at code.now.trees node)) }
+    pub(super) fn begin_loop(&self, cells: &Cells, view: View, node: Node) -> Next
+        requires { HasNumbers view }
+        ensures { TellsBy constructs.begin_loop node.entry view result self.now cells.now }
     {
-        let parts = loop_nodes(code, node);
-        match self.value(code, cells, view, parts.start) {
+        let parts = loop_nodes(node);
+        match self.value(node.code, cells, view, parts.start) {
             Err(trap) => Next::Trap(trap),
-            Ok(start) => match self.value(code, cells, view, parts.end) {
+            Ok(start) => match self.value(node.code, cells, view, parts.end) {
                 Err(trap) => Next::Trap(trap),
-                Ok(end) => share_loop(code, node, parts, start, end),
+                Ok(end) => share_loop(node, parts, start, end),
             },
         }
     }
 }
 
 /// A region is forked, for which so many threads are requested.
-fn fork(code: &Code, node: u32, requested: i32) -> Next
-    requires { node < length code.now.trees }
-    ensures { Tells code.now result
-        (Occurs (ParallelBegin (place_of (tree_at code.now.trees node)) requested) (tree_at code.now.trees node)) }
+fn fork(node: Node, requested: i32) -> Next
+    ensures { TellsOf (λ tree. Occurs (ParallelBegin (place_of tree) requested) tree) node.entry result }
 {
-    let codeptr = code.place(node);
-    Next::Event(Point::ParallelBegin { codeptr, requested }, node)
+    let codeptr = node.place();
+    Next::Event(Point::ParallelBegin { codeptr, requested }, node.number)
 }
 
 /// A loop that is shared out begins with these numbers.
-fn share_loop(code: &Code, node: u32, parts: LoopNodes, start: i32, end: i32) -> Next
-    requires node { node < length code.now.trees }
-    requires parts { parts_at code.now.trees parts ≡ loop_of (tree_at code.now.trees node) }
+fn share_loop(node: Node, parts: LoopNodes, start: i32, end: i32) -> Next
+    requires parts { parts_at node.code.now.trees parts ≡ loop_of (tree_of node) }
     requires goes_on { GoesOn parts.comparison parts.step }
-    ensures { Tells code.now result (constructs.loop_work (tree_at code.now.trees node) start end) }
+    ensures { TellsOf (λ tree. constructs.loop_work tree start end) node.entry result }
 {
     let count = iteration_count(parts.comparison, start, end, parts.step);
-    let work = loop_work(start, count, parts.step, schedule(code, node));
-    let codeptr = code.place(node);
-    Next::Event(Point::WorkBegin { codeptr, work }, node)
+    let work = loop_work(start, count, parts.step, schedule(node));
+    let codeptr = node.place();
+    Next::Event(Point::WorkBegin { codeptr, work }, node.number)
 }
 
 /// What is shared out of a loop.
@@ -181,136 +166,125 @@ fn loop_work(start: i32, count: u64, step: i32, schedule: Schedule) -> Work
 }
 
 /// Sections that are shared out begin.
-pub(super) fn begin_sections(code: &Code, node: u32) -> Next
-    requires { node < length code.now.trees }
-    ensures { Tells code.now result (constructs.begin_sections (tree_at code.now.trees node)) }
+pub(super) fn begin_sections(node: Node) -> Next
+    ensures { TellsOf constructs.begin_sections node.entry result }
 {
-    let work = Work::Sections(section_count(code, node));
-    let codeptr = code.place(node);
-    Next::Event(Point::WorkBegin { codeptr, work }, node)
+    let work = Work::Sections(section_count(node));
+    let codeptr = node.place();
+    Next::Event(Point::WorkBegin { codeptr, work }, node.number)
 }
 
 /// A statement for one member begins.
-fn begin_single(code: &Code, node: u32) -> Next
-    requires { node < length code.now.trees }
-    ensures { Tells code.now result (constructs.begin_single (tree_at code.now.trees node)) }
+fn begin_single(node: Node) -> Next
+    ensures { TellsOf constructs.begin_single node.entry result }
 {
-    let codeptr = code.place(node);
+    let codeptr = node.place();
     let work = Work::Single;
-    Next::Event(Point::WorkBegin { codeptr, work }, node)
+    Next::Event(Point::WorkBegin { codeptr, work }, node.number)
 }
 
 /// A statement for member 0 begins.
-fn begin_masked(code: &Code, node: u32) -> Next
-    requires { node < length code.now.trees }
-    ensures { Tells code.now result (constructs.begin_masked (tree_at code.now.trees node)) }
+fn begin_masked(node: Node) -> Next
+    ensures { TellsOf constructs.begin_masked node.entry result }
 {
-    let codeptr = code.place(node);
-    Next::Event(Point::MaskedBegin { codeptr }, node)
+    let codeptr = node.place();
+    Next::Event(Point::MaskedBegin { codeptr }, node.number)
 }
 
 /// A critical is asked for.
-fn begin_critical(code: &Code, node: u32) -> Next
-    requires { node < length code.now.trees }
-    ensures { Tells code.now result
-        (Occurs (MutexAcquire (place_of (tree_at code.now.trees node))
-        (critical_number code.now (tree_at code.now.trees node)) critical nowhere) (tree_at code.now.trees node)) }
+fn begin_critical(node: Node) -> Next
+    ensures { TellsOf (λ tree. Occurs (MutexAcquire (place_of tree) (critical_number node.entry.code.now tree) critical
+        nowhere) tree) node.entry result }
 {
     let point = Point::MutexAcquire {
-        codeptr: code.place(node),
-        wait_id: code.program().critical_number(node),
+        codeptr: node.place(),
+        wait_id: node.code.program().critical_number(node.number),
         kind: MutexKind::Critical,
         to: Target::Nowhere,
     };
-    Next::Event(point, node)
+    Next::Event(point, node.number)
 }
 
 /// A directive without a statement begins: a barrier or a taskwait.
 #[inline(never)]
-pub(super) fn begin_standalone(code: &Code, which: Standalone, node: u32) -> Next
-    requires { node < length code.now.trees }
-    ensures { Tells code.now result (steps.begin_standalone which (tree_at code.now.trees node)) }
+pub(super) fn begin_standalone(which: Standalone, node: Node) -> Next
+    ensures { TellsOf (steps.begin_standalone which) node.entry result }
 {
     match which {
-        Standalone::Barrier => synchronise(code, node, SyncKind::Barrier, SyncStage::RegionBegin),
-        Standalone::Taskwait => synchronise(code, node, SyncKind::Taskwait, SyncStage::RegionBegin),
+        Standalone::Barrier => synchronise(node, SyncKind::Barrier, SyncStage::RegionBegin),
+        Standalone::Taskwait => synchronise(node, SyncKind::Taskwait, SyncStage::RegionBegin),
     }
 }
 
 /// An event of a barrier or taskwait.
 #[inline(never)]
-pub(super) fn synchronise(code: &Code, node: u32, kind: SyncKind, stage: SyncStage) -> Next
-    requires { node < length code.now.trees }
-    ensures { Tells code.now result (constructs.synchronises (tree_at code.now.trees node) kind stage) }
+pub(super) fn synchronise(node: Node, kind: SyncKind, stage: SyncStage) -> Next
+    ensures { TellsOf (λ tree. constructs.synchronises tree kind stage) node.entry result }
 {
     let point = Point::Sync {
-        codeptr: code.place(node),
         kind,
         stage,
+        codeptr: node.place(),
     };
-    Next::Event(point, node)
+    Next::Event(point, node.number)
 }
 
 /// A region that was forked is over.
 #[inline(never)]
-pub(super) fn end_parallel(code: &Code, node: u32) -> Next
-    requires { node < length code.now.trees }
-    ensures { Tells code.now result (constructs.end_parallel (tree_at code.now.trees node)) }
+pub(super) fn end_parallel(node: Node) -> Next
+    ensures { TellsOf constructs.end_parallel node.entry result }
 {
-    let codeptr = code.place(node);
-    Next::Event(Point::ParallelEnd { codeptr }, node)
+    let codeptr = node.place();
+    Next::Event(Point::ParallelEnd { codeptr }, node.number)
 }
 
 /// The statement of a `masked` construct has ended.
 #[inline(never)]
-pub(super) fn end_masked(code: &Code, node: u32) -> Next
-    requires { node < length code.now.trees }
-    ensures { Tells code.now result (constructs.end_masked (tree_at code.now.trees node)) }
+pub(super) fn end_masked(node: Node) -> Next
+    ensures { TellsOf constructs.end_masked node.entry result }
 {
-    let codeptr = code.place(node);
-    Next::Event(Point::MaskedEnd { codeptr }, node)
+    let codeptr = node.place();
+    Next::Event(Point::MaskedEnd { codeptr }, node.number)
 }
 
 /// The task's part of a worksharing construct ends.
 #[inline(never)]
-pub(super) fn end_work(code: &Code, node: u32, kind: WorkKind, count: u64) -> Next
-    requires { node < length code.now.trees }
-    ensures { Tells code.now result (constructs.end_work (tree_at code.now.trees node) kind count) }
+pub(super) fn end_work(node: Node, kind: WorkKind, count: u64) -> Next
+    ensures { TellsOf (λ tree. constructs.end_work tree kind count) node.entry result }
 {
+    let codeptr = node.place();
     let point = Point::WorkEnd {
-        codeptr: code.place(node),
+        codeptr,
         kind,
         count,
     };
-    Next::Event(point, node)
+    Next::Event(point, node.number)
 }
 
 /// A lock or critical comes to be owned.
 #[inline(never)]
-pub(super) fn acquire(code: &Code, node: u32, kind: MutexKind, wait_id: u32) -> Next
-    requires { node < length code.now.trees }
-    ensures { Tells code.now result (constructs.acquires (tree_at code.now.trees node) kind wait_id) }
+pub(super) fn acquire(node: Node, kind: MutexKind, wait_id: u32) -> Next
+    ensures { TellsOf (λ tree. constructs.acquires tree kind wait_id) node.entry result }
 {
     let point = Point::MutexAcquired {
-        codeptr: code.place(node),
+        codeptr: node.place(),
         wait_id,
         kind,
     };
-    Next::Event(point, node)
+    Next::Event(point, node.number)
 }
 
 /// A critical is given back.
 #[inline(never)]
-pub(super) fn release(code: &Code, node: u32, wait_id: u32) -> Next
-    requires { node < length code.now.trees }
-    ensures { Tells code.now result (constructs.releases (tree_at code.now.trees node) wait_id) }
+pub(super) fn release(node: Node, wait_id: u32) -> Next
+    ensures { TellsOf (λ tree. constructs.releases tree wait_id) node.entry result }
 {
     let point = Point::MutexReleased {
-        codeptr: code.place(node),
+        codeptr: node.place(),
         wait_id,
         kind: MutexKind::Critical,
     };
-    Next::Event(point, node)
+    Next::Event(point, node.number)
 }
 
 /// The next chunk of a loop is asked for.

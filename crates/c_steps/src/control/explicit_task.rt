@@ -18,6 +18,7 @@ use crate::code::Code;
 use crate::control::Control;
 use crate::control::giving::MEMBER_0;
 use crate::item::Item;
+use crate::node::Node;
 
 impl Control {
     /// The code of an explicit task begins in another control, with its own cells beside those of the task that creates it, whose construct
@@ -33,12 +34,13 @@ impl Control {
             (moment_at code.now self.now cells.old) }
         ensures made { IsMadeFor code.now into.new }
     {
-        let Some(node) = created_node(self.front(code, MEMBER_0)) else {
+        let Some(number) = created_node(self.front(code, MEMBER_0)) else {
             return;
         };
-        let part = statement(code, node);
+        let node = Node { code, number };
+        let part = statement(node);
         into.inherit(self.own_entries());
-        into.make_task_cells(code, cells, node);
+        into.make_task_cells(cells, node);
         into.then(Item::Start(part));
     }
 }

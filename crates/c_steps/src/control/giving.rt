@@ -1,12 +1,12 @@
 //! How a task's code goes on after an answer.
 
-ghost use Rattle.std.specs.Prelude.{ℕ, ◌≡◌, ◌<◌, ◌+◌, length};
-ghost use Rattle.c_syntax.specs.language.Numbered.{tree_at};
+ghost use Rattle.std.specs.Prelude.{ℕ, ◌≡◌, ◌<◌, ◌+◌};
 ghost use Rattle.c_model.specs.declared.question.Answer.TheVariants as of_answer;
 ghost use Rattle.c_model.specs.Answers.{AnswersFirst, AnswersItem, IsChunkAnswer, IsLockAnswer, IsSectionAnswer};
 ghost use Rattle.c_model.specs.AfterEvents as after_events;
 ghost use Rattle.c_steps.specs.ControlView.{moment_at, task_at};
 ghost use Rattle.c_steps.specs.Items.{item_at, loop_at, with_file};
+ghost use Rattle.c_steps.specs.NodeTrees.{tree_of};
 ghost use Rattle.c_steps.specs.OfProgram.{IsMadeFor};
 ghost use Rattle.c_steps.specs.Moves.{ending};
 ghost use Rattle.c_steps.specs.Passing.{IsGiven};
@@ -19,6 +19,7 @@ use crate::control::Control;
 use crate::frame::Frame;
 use crate::item::{Item, Loop};
 use crate::listed::{ListedPlace, first_listed};
+use crate::node::Node;
 use c_model::{Answer, MutexKind, Target, View, WorkKind};
 
 /// What member 0 sees, who goes past nothing.
@@ -62,10 +63,12 @@ impl Control {
         match item {
             Item::NextChunk(shared) => self.give_chunk(code, shared, chunk_in(answer)),
             Item::NextSection { node, names } => {
-                self.give_section(code, node, names, section_in(answer))
+                let node = Node { code, number: node };
+                self.give_section(node, names, section_in(answer))
             }
             Item::TestLock { node, id, to } => {
-                self.give_lock(code, cells, node, id, to, is_free_in(answer))
+                let node = Node { code, number: node };
+                self.give_lock(cells, node, id, to, is_free_in(answer))
             }
             _ => {}
         }
@@ -116,21 +119,20 @@ impl Control {
 
     /// A section stands next, or, where none is left, the reductions and the end of the sections.
     #[tactic(auto, using(crate::proofs::Replacing::step_then_two, crate::proofs::Replacing::step_ends))]
-    fn give_section(&mut self, code: &Code, node: u32, names: usize, section: Option<u32>)
-        requires ready { IsStepping code.now self.old }
-        requires node { node < length code.now.trees }
-        ensures { IsGiven code.now self.old self.new
-            (after_events.items_of_section (tree_at code.now.trees node) (with_file code.now names) section) }
+    fn give_section(&mut self, node: Node, names: usize, section: Option<u32>)
+        requires { IsStepping node.code.now self.old }
+        ensures { let program = node.entry.code.now in IsGiven program self.old self.new
+            (after_events.items_of_section (tree_of node.entry) (with_file program names) section) }
     {
         match section {
             Some(number) => {
-                let statement = nth_section(code, node, number);
+                let (node, statement) = (node.number, nth_section(node, number));
                 self.step();
                 self.then(Item::NextSection { node, names });
                 self.then(Item::Start(statement));
             }
             None => {
-                let count = u64::from(section_count(code, node));
+                let (node, count) = (node.number, u64::from(section_count(node)));
                 self.step();
                 self.end_work(first_listed(), node, WorkKind::Sections, count, names);
             }
@@ -139,26 +141,17 @@ impl Control {
 
     /// The lock that a test waits for comes to be owned, or the test ends with 0.
     #[tactic(auto, using(crate::proofs::Replacing::step_then_two, crate::proofs::Replacing::step_delivers))]
-    fn give_lock(
-        &mut self,
-        code: &Code,
-        cells: &mut Cells,
-        node: u32,
-        id: u32,
-        to: Target,
-        free: bool,
-    )
-        requires ready { IsStepping code.now self.old }
-        requires node { node < length code.now.trees }
-        ensures held { IsGiven code.now self.old self.new
-            (after_events.items_of_test (tree_at code.now.trees node) id to free) }
+    fn give_lock(&mut self, cells: &mut Cells, node: Node, id: u32, to: Target, free: bool)
+        requires { IsStepping node.code.now self.old }
+        ensures held { IsGiven node.entry.code.now self.old self.new
+            (after_events.items_of_test (tree_of node.entry) id to free) }
         ensures cells { cells.new ≡ record cells.old { cells = after_events.cells_of_test to free cells.old.cells } }
     {
         self.step();
         if free {
             self.then(Item::Tested(to));
             self.then(Item::Acquire {
-                node,
+                node: node.number,
                 kind: MutexKind::TestLock,
                 id,
             });

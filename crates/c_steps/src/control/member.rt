@@ -8,6 +8,7 @@ ghost use Rattle.c_model.specs.Begin.{member_items, member_statement, member_tas
 ghost use Rattle.c_steps.specs.Beginning.{HasForked, IsPutBefore, forked_of, member_by, region_items};
 ghost use Rattle.c_steps.specs.ControlView.{task_at};
 ghost use Rattle.c_steps.specs.Items.{item_at, with_file};
+ghost use Rattle.c_steps.specs.NodeTrees.{tree_of};
 ghost use Rattle.c_steps.specs.OfProgram.{IsMadeFor};
 ghost use Rattle.c_steps.specs.Moves.{beginning, cleared};
 ghost use Rattle.c_steps.specs.Ready.{IsItem};
@@ -21,6 +22,7 @@ use crate::control::passing::own_cells;
 use crate::frame::Frame;
 use crate::item::Item;
 use crate::listed::first_listed;
+use crate::node::Node;
 use c_model::{Entry, SyncKind, SyncStage};
 use c_syntax::{Directive, NodeKind};
 
@@ -35,11 +37,11 @@ impl Control {
         ensures task { task_at code.now into.new ≡ member_task (task_at code.now self.now) }
         ensures made { IsMadeFor code.now into.new }
     {
-        let Some(node) = forked_node(self.front(code, MEMBER_0)) else {
+        let Some(number) = forked_node(self.front(code, MEMBER_0)) else {
             return;
         };
         into.inherit(self.own_entries());
-        into.begin_member(code, node, self.own_names());
+        into.begin_member(Node { code, number }, self.own_names());
     }
 
     /// No code is left, these names are in scope, and the rest of the room is for more.
@@ -64,35 +66,33 @@ impl Control {
     }
 
     /// The code of a member stands next: what it executes, and then the region's barrier.
-    fn begin_member(&mut self, code: &Code, node: u32, names: usize)
-        requires room { 3 < self.old.frames_now }
-        requires node { node < length code.now.trees }
-        ensures { IsPutBefore code.now (member_items (tree_at code.now.trees node) (with_file code.now names)) self.old
-            self.new }
+    fn begin_member(&mut self, node: Node, names: usize)
+        requires { 3 < self.old.frames_now }
+        ensures { let program = node.entry.code.now in
+            IsPutBefore program (member_items (tree_of node.entry) (with_file program names)) self.old self.new }
     {
         self.then(Item::Sync {
-            node,
+            node: node.number,
             kind: SyncKind::Parallel,
             stage: SyncStage::RegionBegin,
         });
-        if has_construct_inside(code.kind(Some(node))) {
-            self.then(Item::Inside(node));
+        if has_construct_inside(node.kind()) {
+            self.then(Item::Inside(node.number));
         } else {
-            self.begin_region(code, node, names);
+            self.begin_region(node, names);
         }
     }
 
     /// The statement of a parallel construct stands next, with the making of the construct's own cells before it and the reductions behind.
-    fn begin_region(&mut self, code: &Code, node: u32, names: usize)
-        requires room { 2 < self.old.frames_now }
-        requires node { node < length code.now.trees }
-        ensures { IsPutBefore code.now (region_items (tree_at code.now.trees node) (with_file code.now names)) self.old
-            self.new }
+    fn begin_region(&mut self, node: Node, names: usize)
+        requires { 2 < self.old.frames_now }
+        ensures { let program = node.entry.code.now in
+            IsPutBefore program (region_items (tree_of node.entry) (with_file program names)) self.old self.new }
     {
-        let part = statement(code, node);
-        let cells = own_cells(code, node);
+        let part = statement(node);
+        let cells = own_cells(node);
         self.push(Frame::Combining {
-            construct: node,
+            construct: node.number,
             from: first_listed(),
             names,
         });

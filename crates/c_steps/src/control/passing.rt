@@ -13,7 +13,9 @@ ghost use Rattle.c_steps.specs.Items.{item_at, items_if, loop_at, with_file};
 ghost use Rattle.c_steps.specs.OfProgram.{IsMadeFor};
 ghost use Rattle.c_steps.specs.Moves.{asking};
 ghost use Rattle.c_steps.specs.Nodes.{IsPart, part_at};
+ghost use Rattle.c_steps.specs.NodeTrees.{tree_of};
 ghost use Rattle.c_steps.specs.Passing.{IsAfterEvent, IsEventOf, IsEventOfNext, IsPassed, names_behind_asking, names_behind_work, replaced, stages_at};
+ghost use Rattle.c_steps.specs.Forms.{IsPassedBy};
 ghost use Rattle.c_steps.specs.Rooming.{IsEntry};
 ghost use Rattle.c_steps.specs.Ready.{AreFrames, AreLoopNumbers, AreWorkNumbers, IsItem, IsLoop, IsPassing};
 
@@ -23,6 +25,7 @@ use crate::control::Control;
 use crate::control::giving::MEMBER_0;
 use crate::item::{Item, Loop};
 use crate::listed::{has_own_cells, loop_variable};
+use crate::node::Node;
 use c_model::{Entry, MutexKind, Point, SyncKind, SyncStage, Target, Work, WorkKind};
 
 impl Control {
@@ -53,11 +56,12 @@ impl Control {
             (after_events.items_after point executes (length (env_at code.now self.old)) (item_at code.now item))
             (after_events.names_after point (item_at code.now item) (env_at code.now self.old)) }
     {
+        let at = Node { code, number: node };
         match point {
             Point::ParallelBegin { .. } => self.put_instead(code, Some(Item::Forked(node))),
-            Point::WorkBegin { work, .. } => self.begin_work(code, node, work, executes),
-            Point::WorkEnd { .. } => self.end_own_names(code, item, node),
-            Point::MaskedBegin { .. } => self.begin_masked(code, node),
+            Point::WorkBegin { work, .. } => self.begin_work(at, work, executes),
+            Point::WorkEnd { .. } => self.end_own_names(item, at),
+            Point::MaskedBegin { .. } => self.begin_masked(at),
             Point::Sync { kind, stage, .. } => {
                 self.put_instead(code, next_stage(node, kind, stage))
             }
@@ -66,7 +70,7 @@ impl Control {
                 kind,
                 to,
                 ..
-            } => self.ask_for(code, item, node, wait_id, kind, to),
+            } => self.ask_for(item, at, wait_id, kind, to),
             Point::ParallelEnd { .. }
             | Point::TaskCreate { .. }
             | Point::MaskedEnd { .. }
@@ -91,32 +95,28 @@ impl Control {
 
     /// The statement of a `masked` construct stands next, and then its end.
     #[tactic(auto, using(crate::proofs::Passing::pass_then_two))]
-    fn begin_masked(&mut self, code: &Code, node: u32)
-        requires ready { IsPassing code.now self.old }
-        requires node { node < length code.now.trees }
-        ensures { IsPassed code.now self.old self.new
-            (Start (construct_statement (tree_at code.now.trees node)) ∷ EndMasked (tree_at code.now.trees node) ∷ [])
-            (env_at code.now self.old) }
+    fn begin_masked(&mut self, node: Node)
+        requires { IsPassing node.code.now self.old }
+        ensures { IsPassedBy (λ construct. Start (construct_statement construct) ∷ EndMasked construct ∷ [])
+            node.entry self.old self.new }
     {
-        let part = statement(code, node);
+        let part = statement(node);
         self.pass();
-        self.then(Item::EndMasked(node));
+        self.then(Item::EndMasked(node.number));
         self.then(Item::Start(part));
     }
 
     /// The stages of a worksharing construct behind its begin.
     #[tactic(auto, using(crate::proofs::Passing::pass_work, crate::proofs::Frames::all_names))]
-    fn begin_work(&mut self, code: &Code, node: u32, work: Work, executes: bool)
-        requires ready { IsPassing code.now self.old }
-        requires node { node < length code.now.trees }
+    fn begin_work(&mut self, node: Node, work: Work, executes: bool)
+        requires ready { IsPassing node.code.now self.old }
         requires work { AreWorkNumbers work }
-        ensures { IsPassed code.now self.old self.new
-            (makes_cells (tree_at code.now.trees node) ++
-            after_events.work_items work (tree_at code.now.trees node) (length (env_at code.now self.old)) executes)
-            (env_at code.now self.old) }
+        ensures { let count = length (env_at node.entry.code.now self.old) in
+            IsPassedBy (λ construct. makes_cells construct ++ after_events.work_items work construct count executes)
+            node.entry self.old self.new }
     {
-        let (first, last) = work_stages(code, node, self.own_names(), work, executes);
-        let cells = own_cells(code, node);
+        let (first, last) = work_stages(node, self.own_names(), work, executes);
+        let cells = own_cells(node);
         self.pass();
         self.then(last);
         self.then_if(first);
@@ -125,14 +125,13 @@ impl Control {
 
     /// The names of a worksharing construct end with its work, and its barrier stands next unless it has none.
     #[tactic(auto, using(crate::proofs::Passing::pass_cut, crate::proofs::Passing::pass_then_if))]
-    fn end_own_names(&mut self, code: &Code, item: Item, node: u32)
-        requires ready { IsPassing code.now self.old }
-        requires node { node < length code.now.trees }
-        ensures { IsPassed code.now self.old self.new
-            (after_events.barrier_items (tree_at code.now.trees node))
-            (names_behind_work code.now item (env_at code.now self.old)) }
+    fn end_own_names(&mut self, item: Item, node: Node)
+        requires { IsPassing node.code.now self.old }
+        ensures { let program = node.entry.code.now in
+            IsPassed program self.old self.new (after_events.barrier_items (tree_of node.entry))
+            (names_behind_work program item (env_at program self.old)) }
     {
-        let barrier = barrier_of(code, node);
+        let barrier = barrier_of(node);
         self.pass();
         match item {
             Item::EndWork { names, .. } => {
@@ -144,59 +143,48 @@ impl Control {
     }
 
     /// A lock or critical is asked for. The variable of a declarator that tests a lock comes into scope.
-    fn ask_for(&mut self, code: &Code, item: Item, node: u32, id: u32, kind: MutexKind, to: Target)
-        requires ready { IsPassing code.now self.old }
-        requires item { IsItem code.now item }
-        requires node { node < length code.now.trees }
-        ensures { IsPassed code.now self.old self.new
-            (after_events.mutex_items kind (tree_at code.now.trees node) id to)
-            (names_behind_asking item (env_at code.now self.old)) }
+    fn ask_for(&mut self, item: Item, node: Node, id: u32, kind: MutexKind, to: Target)
+        requires ready { IsPassing node.code.now self.old }
+        requires item { IsItem node.code.now item }
+        ensures { let program = node.entry.code.now in
+            IsPassed program self.old self.new (after_events.mutex_items kind (tree_of node.entry) id to)
+            (names_behind_asking item (env_at program self.old)) }
     {
         match item {
-            Item::Initialise { entry, .. } => self.ask_with(code, entry, node, id, kind, to),
-            _ => self.ask_alone(code, node, id, kind, to),
+            Item::Initialise { entry, .. } => self.ask_with(entry, node, id, kind, to),
+            _ => self.ask_alone(node, id, kind, to),
         }
     }
 
     /// A lock or critical is asked for.
     #[tactic(auto, using(crate::proofs::Passing::pass_asks))]
-    fn ask_alone(&mut self, code: &Code, node: u32, id: u32, kind: MutexKind, to: Target)
-        requires ready { IsPassing code.now self.old }
-        requires node { node < length code.now.trees }
-        ensures task { task_at code.now self.new ≡
-            replaced code.now (after_events.mutex_items kind (tree_at code.now.trees node) id to) self.old }
+    fn ask_alone(&mut self, node: Node, id: u32, kind: MutexKind, to: Target)
+        requires { IsPassing node.code.now self.old }
+        ensures task { task_at node.entry.code.now self.new ≡
+            replaced node.entry.code.now (after_events.mutex_items kind (tree_of node.entry) id to) self.old }
         ensures after { IsAfterEvent self.old self.new }
-        ensures frames { AreFrames code.now self.new.frames }
+        ensures frames { AreFrames node.entry.code.now self.new.frames }
     {
-        let part = statement(code, node);
+        let part = statement(node);
         self.pass();
-        self.ask(kind, node, part, id, to);
+        self.ask(kind, node.number, part, id, to);
     }
 
     /// A lock is asked for, and a name more is in scope.
     #[tactic(auto, using(crate::proofs::Passing::pass_asks_with))]
-    fn ask_with(
-        &mut self,
-        code: &Code,
-        entry: Entry,
-        node: u32,
-        id: u32,
-        kind: MutexKind,
-        to: Target,
-    )
-        requires ready { IsPassing code.now self.old }
+    fn ask_with(&mut self, entry: Entry, node: Node, id: u32, kind: MutexKind, to: Target)
+        requires ready { IsPassing node.code.now self.old }
         requires entry { IsEntry entry }
-        requires node { node < length code.now.trees }
-        ensures task { task_at code.now self.new ≡
-            record (replaced code.now (after_events.mutex_items kind (tree_at code.now.trees node) id to) self.old)
-            { env = env_at code.now self.old ++ entry ∷ [] } }
+        ensures task { task_at node.entry.code.now self.new ≡
+            record (replaced node.entry.code.now (after_events.mutex_items kind (tree_of node.entry) id to) self.old)
+            { env = env_at node.entry.code.now self.old ++ entry ∷ [] } }
         ensures after { IsAfterEvent self.old self.new }
-        ensures frames { AreFrames code.now self.new.frames }
+        ensures frames { AreFrames node.entry.code.now self.new.frames }
     {
-        let part = statement(code, node);
+        let part = statement(node);
         self.pass();
         self.bind(entry);
-        self.ask(kind, node, part, id, to);
+        self.ask(kind, node.number, part, id, to);
     }
 
     /// A lock or critical is asked for, and this part of the program stands next behind it, where it is a critical.
@@ -232,16 +220,15 @@ fn next_stage(node: u32, kind: SyncKind, stage: SyncStage) -> Option<Item>
 }
 
 /// The barrier behind a worksharing construct, if it has one.
-fn barrier_of(code: &Code, node: u32) -> Option<Item>
-    requires { node < length code.now.trees }
-    ensures barrier { items_if code.now result ≡ after_events.barrier_items (tree_at code.now.trees node) }
-    ensures item { IfSome result (IsItem code.now) }
+fn barrier_of(node: Node) -> Option<Item>
+    ensures barrier { items_if node.entry.code.now result ≡ after_events.barrier_items (tree_of node.entry) }
+    ensures item { IfSome result (IsItem node.entry.code.now) }
 {
-    if has_nowait(code, node) {
+    if has_nowait(node) {
         None
     } else {
         Some(Item::Sync {
-            node,
+            node: node.number,
             kind: SyncKind::Worksharing,
             stage: SyncStage::RegionBegin,
         })
@@ -249,13 +236,12 @@ fn barrier_of(code: &Code, node: u32) -> Option<Item>
 }
 
 /// The making of a construct's own cells, if it has any.
-pub(super) fn own_cells(code: &Code, node: u32) -> Option<Item>
-    requires { node < length code.now.trees }
-    ensures cells { items_if code.now result ≡ makes_cells (tree_at code.now.trees node) }
-    ensures item { IfSome result (IsItem code.now) }
+pub(super) fn own_cells(node: Node) -> Option<Item>
+    ensures cells { items_if node.entry.code.now result ≡ makes_cells (tree_of node.entry) }
+    ensures item { IfSome result (IsItem node.entry.code.now) }
 {
-    if has_own_cells(code, node) {
-        Some(Item::MakeCells(node))
+    if has_own_cells(node) {
+        Some(Item::MakeCells(node.number))
     } else {
         None
     }
@@ -263,19 +249,12 @@ pub(super) fn own_cells(code: &Code, node: u32) -> Option<Item>
 
 /// The stages of a worksharing construct behind its begin: the statement of a `single` that the task executes, and then what is asked for
 /// first, or the end of its work.
-fn work_stages(
-    code: &Code,
-    node: u32,
-    names: usize,
-    work: Work,
-    executes: bool,
-) -> (Option<Item>, Item)
-    requires node { node < length code.now.trees }
-    requires work { AreWorkNumbers work }
-    ensures stages { stages_at code.now result ≡ after_events.work_items work (tree_at code.now.trees node)
-        (with_file code.now names) executes }
-    ensures first { IfSome result.0 (IsItem code.now) }
-    ensures last { IsItem code.now result.1 }
+fn work_stages(node: Node, names: usize, work: Work, executes: bool) -> (Option<Item>, Item)
+    requires { AreWorkNumbers work }
+    ensures stages { stages_at node.entry.code.now result ≡
+        after_events.work_items work (tree_of node.entry) (with_file node.entry.code.now names) executes }
+    ensures first { IfSome result.0 (IsItem node.entry.code.now) }
+    ensures last { IsItem node.entry.code.now result.1 }
 {
     match work {
         Work::Loop {
@@ -284,30 +263,33 @@ fn work_stages(
             step,
             ..
         } => {
-            let shared = shared(code, node, start, step, count, names);
+            let shared = shared(node, start, step, count, names);
             (None, Item::NextChunk(shared))
         }
-        Work::Sections(_) => (None, Item::NextSection { node, names }),
-        Work::Single => single_stages(code, node, names, executes),
+        Work::Sections(_) => {
+            let node = node.number;
+            (None, Item::NextSection { node, names })
+        }
+        Work::Single => single_stages(node, names, executes),
     }
 }
 
 /// The stages of a `single`: its statement, where the task executes it, and the end of its work.
-fn single_stages(code: &Code, node: u32, names: usize, executes: bool) -> (Option<Item>, Item)
-    requires node { node < length code.now.trees }
-    ensures stages { stages_at code.now result ≡ after_events.single_items (tree_at code.now.trees node)
-        (with_file code.now names) executes }
-    ensures first { IfSome result.0 (IsItem code.now) }
-    ensures last { IsItem code.now result.1 }
+fn single_stages(node: Node, names: usize, executes: bool) -> (Option<Item>, Item)
+    ensures stages { stages_at node.entry.code.now result ≡
+        after_events.single_items (tree_of node.entry) (with_file node.entry.code.now names) executes }
+    ensures first { IfSome result.0 (IsItem node.entry.code.now) }
+    ensures last { IsItem node.entry.code.now result.1 }
 {
+    let number = node.number;
     if executes {
-        let part = statement(code, node);
+        let part = statement(node);
         (
             Some(Item::Start(part)),
-            end_of_single(node, WorkKind::SingleExecutor, names),
+            end_of_single(number, WorkKind::SingleExecutor, names),
         )
     } else {
-        (None, end_of_single(node, WorkKind::SingleOther, names))
+        (None, end_of_single(number, WorkKind::SingleOther, names))
     }
 }
 
@@ -324,22 +306,21 @@ fn end_of_single(node: u32, kind: WorkKind, names: usize) -> Item
 }
 
 /// What is kept of the loop that a construct shares out.
-fn shared(code: &Code, construct: u32, start: i64, step: i64, count: u64, names: usize) -> Loop
-    requires node { construct < length code.now.trees }
-    requires numbers { AreLoopNumbers start count step }
-    ensures shared { loop_at code.now result ≡ record {
-      construct = tree_at code.now.trees construct;
+fn shared(construct: Node, start: i64, step: i64, count: u64, names: usize) -> Loop
+    requires { AreLoopNumbers start count step }
+    ensures shared { loop_at construct.entry.code.now result ≡ record {
+      construct = tree_of construct.entry;
       start = start;
       step = step;
       count = count;
-      names = with_file code.now names;
+      names = with_file construct.entry.code.now names;
     } }
-    ensures is_loop { IsLoop code.now result }
+    ensures is_loop { IsLoop construct.entry.code.now result }
 {
-    let variable = code.name(loop_variable(code, construct));
-    let body = loop_body(code, construct);
+    let variable = construct.code.name(loop_variable(construct));
+    let body = loop_body(construct);
     Loop {
-        construct,
+        construct: construct.number,
         variable,
         body,
         start,
@@ -350,12 +331,11 @@ fn shared(code: &Code, construct: u32, start: i64, step: i64, count: u64, names:
 }
 
 /// The body of the loop that a construct shares out.
-fn loop_body(code: &Code, construct: u32) -> Option<u32>
-    requires { construct < length code.now.trees }
-    ensures body { part_at code.now.trees result ≡ (loop_of (tree_at code.now.trees construct)).body }
-    ensures there { IsPart code.now.trees result }
+fn loop_body(construct: Node) -> Option<u32>
+    ensures body { part_at construct.entry.code.now.trees result ≡ (loop_of (tree_of construct.entry)).body }
+    ensures there { IsPart construct.entry.code.now.trees result }
 {
-    match code.program().shared_loop(construct) {
+    match construct.code.program().shared_loop(construct.number) {
         Some(found) => Some(found.body),
         None => None,
     }

@@ -1,45 +1,41 @@
 //! Assignments, `++` and `--`.
 
-ghost use Rattle.std.specs.Prelude.{◌≡◌, ◌<◌, length, Ok, IfSome};
+ghost use Rattle.std.specs.Prelude.{◌≡◌, Ok, IfSome};
 ghost use Rattle.c_syntax.specs.language.Tree.{kind_of};
-ghost use Rattle.c_syntax.specs.language.Numbered.{tree_at};
 ghost use Rattle.c_model.specs.StepOutcomes.{sets, with_result};
 ghost use Rattle.c_model.specs.Statements as statements;
 ghost use Rattle.c_model.specs.Value.{binary_value};
-ghost use Rattle.c_steps.specs.ControlView.{here_at, next_of};
+ghost use Rattle.c_steps.specs.ControlView.{here_at};
+ghost use Rattle.c_steps.specs.Forms.{MakesBy};
 ghost use Rattle.c_steps.specs.Items.{items_if};
 ghost use Rattle.c_steps.specs.Nodes.{IsPart, part_at};
 ghost use Rattle.c_steps.specs.Ready.{IsItem, IsStepping};
-ghost use Rattle.c_steps.specs.Steps.{Advances, CanStep};
+ghost use Rattle.c_steps.specs.Steps.{CanStep, Makes};
 
 use crate::cells::Cells;
 use crate::code::Code;
 use crate::control::Control;
 use crate::item::Item;
+use crate::next::{Made, Refusal};
+use crate::node::Node;
 use crate::numbers::{binary_result, deciding_value};
 use c_model::View;
 use c_syntax::{BinaryOp, Bump, NodeKind, Setting};
 
 impl Control {
     /// A step that is a statement.
-    pub(super) fn begin_step(
-        &mut self,
-        code: &Code,
-        cells: &mut Cells,
-        view: View,
-        node: u32,
-    ) -> Result<(), u8>
-        requires ready { CanStep code.now view self.old }
-        requires node { node < length code.now.trees }
-        ensures { Advances code.now (next_of result) self.old cells.old self.new cells.new
-            (statements.begin_step (here_at code.now view self.old cells.old) (tree_at code.now.trees node)) }
+    #[inline(always)]
+    pub(super) fn begin_step(&mut self, cells: &mut Cells, view: View, node: Node) -> Made
+        requires { CanStep node.code.now view self.old }
+        ensures { MakesBy statements.begin_step node.entry view
+            result self.old cells.old self.new cells.new }
     {
-        let step = code.child(Some(node), 0);
-        self.make_step(code, cells, view, step, None)
+        self.make_step(node.code, cells, view, node.child(0), None)
     }
 
     /// A step that is a statement, or the third part of a loop, behind which an item may stand next.
     #[tactic(auto, using(crate::proofs::Stepping::items_if_cases))]
+    #[inline(always)]
     pub(super) fn make_step(
         &mut self,
         code: &Code,
@@ -47,11 +43,11 @@ impl Control {
         view: View,
         part: Option<u32>,
         then: Option<Item>,
-    ) -> Result<(), u8>
+    ) -> Made
         requires ready { CanStep code.now view self.old }
         requires part { IsPart code.now.trees part }
         requires then { IfSome then (IsItem code.now) }
-        ensures { Advances code.now (next_of result) self.old cells.old self.new cells.new
+        ensures { Makes code.now result self.old cells.old self.new cells.new
             (statements.makes_step (kind_of (part_at code.now.trees part)) (here_at code.now view self.old cells.old)
             (part_at code.now.trees part) (items_if code.now then)) }
     {
@@ -73,6 +69,7 @@ impl Control {
     }
 
     /// An assignment: first the cell, then the right side, which has this value or trap.
+    #[inline(always)]
     fn assign(
         &mut self,
         code: &Code,
@@ -82,16 +79,16 @@ impl Control {
         place: Option<u32>,
         right: Result<i32, u8>,
         then: Option<Item>,
-    ) -> Result<(), u8>
+    ) -> Made
         requires ready { CanStep code.now view self.old }
         requires place { IsPart code.now.trees place }
         requires then { IfSome then (IsItem code.now) }
-        ensures { Advances code.now (next_of result) self.old cells.old self.new cells.new
+        ensures { Makes code.now result self.old cells.old self.new cells.new
             (statements.assigns (here_at code.now view self.old cells.old) which (part_at code.now.trees place) right
             (items_if code.now then)) }
     {
         match self.place_cell(code, cells, view, place) {
-            Err(trap) => Err(trap),
+            Err(trap) => Err(Refusal::Trap(trap)),
             Ok(cell) => {
                 let number = new_number(which, cells.number(cell), right);
                 self.set_cell(code, cells, view, cell, number, then)
@@ -101,6 +98,7 @@ impl Control {
 
     /// A cell gets a number, unless that is a trap.
     #[tactic(auto, using(crate::proofs::Stepping::items_if_cases))]
+    #[inline(always)]
     fn set_cell(
         &mut self,
         code: &Code,
@@ -109,15 +107,15 @@ impl Control {
         cell: usize,
         number: Result<i32, u8>,
         then: Option<Item>,
-    ) -> Result<(), u8>
+    ) -> Made
         requires ready { IsStepping code.now self.old }
         requires then { IfSome then (IsItem code.now) }
         ensures { let here = here_at code.now view self.old cells.old in
-            Advances code.now (next_of result) self.old cells.old self.new cells.new
+            Makes code.now result self.old cells.old self.new cells.new
             (with_result number (λ number. sets here cell number (items_if code.now then))) }
     {
         match number {
-            Err(trap) => Err(trap),
+            Err(trap) => Err(Refusal::Trap(trap)),
             Ok(number) => {
                 self.step();
                 self.then_if(then);
@@ -129,6 +127,7 @@ impl Control {
 }
 
 /// What an assignment puts into its cell, by what the cell holds and the value or the trap of its right side.
+#[inline(always)]
 fn new_number(which: Setting, held: i32, right: Result<i32, u8>) -> Result<i32, u8>
     ensures { result ≡ statements.new_number which held right }
 {
@@ -143,6 +142,7 @@ fn new_number(which: Setting, held: i32, right: Result<i32, u8>) -> Result<i32, 
 }
 
 /// What an operator makes of a number and the value or the trap of its right side.
+#[inline(always)]
 fn operated(operator: BinaryOp, left: i32, right: Result<i32, u8>) -> Result<i32, u8>
     ensures { result ≡ binary_value operator (Ok left) right }
 {
@@ -156,7 +156,8 @@ fn operated(operator: BinaryOp, left: i32, right: Result<i32, u8>) -> Result<i32
 }
 
 /// The assignment that a `++` or `--` makes of 1.
-pub(super) fn setting_of(which: Bump) -> Setting
+#[inline(always)]
+fn setting_of(which: Bump) -> Setting
     ensures { result ≡ statements.setting_of which }
 {
     match which {

@@ -1,15 +1,13 @@
 //! A silent step of C's own statements, made without a look at what else may stand next.
 
-ghost use Rattle.std.specs.Prelude.{◌≡◌, ◌<◌, ◌≤◌, length, slice_get, slice_set, IfSome, Some};
+ghost use Rattle.std.specs.Prelude.{◌≡◌, ◌<◌, ◌≤◌, slice_get, slice_set, IfSome, Some};
 ghost use Rattle.c_syntax.specs.language.Tree.{kind_of};
-ghost use Rattle.c_syntax.specs.language.Numbered.{tree_at};
-ghost use Rattle.c_model.specs.Calls as calls;
-ghost use Rattle.c_model.specs.Statements as statements;
 ghost use Rattle.c_model.specs.Step.{begin_statement, step_of};
 ghost use Rattle.c_steps.specs.ControlView.{here_at, task_at};
 ghost use Rattle.c_steps.specs.Items.{item_at};
+ghost use Rattle.c_steps.specs.NodeTrees.{tree_of};
 ghost use Rattle.c_steps.specs.OfProgram.{IsMadeFor};
-ghost use Rattle.c_steps.specs.Ready.{AreFrames, IsFront, IsItem, IsStepping};
+ghost use Rattle.c_steps.specs.Ready.{AreFrames, IsFront, IsItem};
 ghost use Rattle.c_steps.specs.Views.{HasNumbers};
 ghost use Rattle.c_steps.specs.Rooming.{open_calls};
 ghost use Rattle.c_steps.specs.Steps.{CanStep};
@@ -20,12 +18,12 @@ ghost use Rattle.c_steps.specs.declared.item.Item.TheVariants.{Leave};
 use crate::cells::Cells;
 use crate::code::Code;
 use crate::control::Control;
+use crate::control::statement::is_own;
 use crate::frame::Frame;
 use crate::item::Item;
-use crate::next::is_quiet;
+use crate::node::Node;
 use crate::plain::{Part, Plain, plain_item, shown_part};
-use c_model::{Target, View};
-use c_syntax::NodeKind;
+use c_model::View;
 
 // What makes a large value, as an item or a `Next`, is never inlined here: a function pays at entry for all that it may make.
 impl Control {
@@ -149,91 +147,34 @@ impl Control {
             (step_of (item_at code.now (item_of plain)) (here_at code.now view self.old cells.old)) }
     {
         match plain {
-            Plain::Start(node) => self.try_statement(code, cells, view, node),
-            Plain::Declare(node) => is_quiet(self.declare(code, cells, view, node)),
-            Plain::Leave(names) => is_quiet(self.leave_block(code, cells, view, names)),
-            Plain::Test { node, names } => self.try_test(code, cells, view, node, names),
-            Plain::Third { node, names } => self.try_third(code, cells, view, node, names),
-            Plain::Return(number) => is_quiet(self.returns(code, cells, view, number)),
-            Plain::FallOff => is_quiet(self.returns(code, cells, view, 0)),
-        }
-    }
-
-    /// The step of a statement: one line for each form of C's own.
-    #[tactic(auto, using(crate::proofs::Trying::attempt_of))]
-    #[inline(always)]
-    fn try_statement(&mut self, code: &Code, cells: &mut Cells, view: View, node: u32) -> bool
-        requires ready { CanStep code.now view self.old }
-        requires node { node < length code.now.trees }
-        ensures { IsAttempt code.now result self.old cells.old self.new cells.new
-            (begin_statement (kind_of (tree_at code.now.trees node)) (here_at code.now view self.old cells.old)
-            (tree_at code.now.trees node)) }
-    {
-        match code.kind(Some(node)) {
-            NodeKind::Block => is_quiet(self.begin_block(code, cells, view, node)),
-            NodeKind::If => self.try_if(code, cells, view, node),
-            NodeKind::While => self.try_while(code, cells, view, node),
-            NodeKind::For => self.try_for(code, cells, view, node),
-            NodeKind::Return => self.try_return(code, cells, view, node),
-            NodeKind::SetCall => self.try_set_call(code, cells, view, node),
-            NodeKind::Step => self.try_change(code, cells, view, node),
-            NodeKind::Called => self.try_called(code, cells, view, node),
-            NodeKind::Empty => self.try_empty(code, cells, view),
-            _ => false,
-        }
-    }
-
-    /// A plain `for` begins.
-    #[tactic(auto, using(crate::proofs::Trying::attempt_of))]
-    #[inline(never)]
-    fn try_for(&mut self, code: &Code, cells: &mut Cells, view: View, node: u32) -> bool
-        requires ready { CanStep code.now view self.old }
-        requires node { node < length code.now.trees }
-        ensures { IsAttempt code.now result self.old cells.old self.new cells.new
-            (statements.begin_for (here_at code.now view self.old cells.old) (tree_at code.now.trees node)) }
-    {
-        let next = self.begin_for(code, cells, view, node);
-        is_quiet(next)
-    }
-
-    /// An assignment of a call: first the cell, and then the call.
-    #[inline(always)]
-    fn try_set_call(&mut self, code: &Code, cells: &mut Cells, view: View, node: u32) -> bool
-        requires ready { CanStep code.now view self.old }
-        requires node { node < length code.now.trees }
-        ensures { IsAttempt code.now result self.old cells.old self.new cells.new
-            (calls.begin_set_call (here_at code.now view self.old cells.old) (tree_at code.now.trees node)) }
-    {
-        match self.place_cell(code, cells, view, code.child(Some(node), 0)) {
-            Ok(cell) => {
-                let call = code.child(Some(node), 1);
-                self.try_call(code, cells, view, call, Target::Cell(cell as u32))
+            Plain::Start(number) => self.try_statement(cells, view, Node { code, number }),
+            Plain::Declare(number) => self.declare(cells, view, Node { code, number }).is_ok(),
+            Plain::Leave(names) => self.leave_block(code, cells, view, names).is_ok(),
+            Plain::Test { node, names } => {
+                self.test_for(cells, view, Node { code, number: node }, names)
+                    .is_ok()
             }
-            Err(_) => false,
+            Plain::Third { node, names } => {
+                self.third_for(cells, view, Node { code, number: node }, names)
+                    .is_ok()
+            }
+            Plain::Return(number) => self.returns(code, cells, view, number).is_ok(),
+            Plain::FallOff => self.returns(code, cells, view, 0).is_ok(),
         }
     }
 
-    /// A call that is a statement.
-    #[inline(always)]
-    fn try_called(&mut self, code: &Code, cells: &mut Cells, view: View, node: u32) -> bool
-        requires ready { CanStep code.now view self.old }
-        requires node { node < length code.now.trees }
-        ensures { IsAttempt code.now result self.old cells.old self.new cells.new
-            (calls.begin_called (here_at code.now view self.old cells.old) (tree_at code.now.trees node)) }
-    {
-        let call = code.child(Some(node), 0);
-        self.try_call(code, cells, view, call, Target::Nowhere)
-    }
-
-    /// A statement that does nothing.
+    /// The step of a statement, if it is one of C's own.
     #[tactic(auto, using(crate::proofs::Trying::attempt_of))]
-    #[inline(never)]
-    fn try_empty(&mut self, code: &Code, cells: &mut Cells, view: View) -> bool
-        requires ready { IsStepping code.now self.old }
-        ensures { IsAttempt code.now result self.old cells.old self.new cells.new
-            (statements.begin_empty (here_at code.now view self.old cells.old)) }
+    #[inline(always)]
+    fn try_statement(&mut self, cells: &mut Cells, view: View, node: Node) -> bool
+        requires { CanStep node.code.now view self.old }
+        ensures { let program = node.entry.code.now in
+            IsAttempt program result self.old cells.old self.new cells.new (begin_statement (kind_of (tree_of node.entry))
+            (here_at program view self.old cells.old) (tree_of node.entry)) }
     {
-        let next = self.begin_empty(code, cells, view);
-        is_quiet(next)
+        if !is_own(node.kind()) {
+            return false;
+        }
+        self.make_statement(cells, view, node).is_ok()
     }
 }

@@ -9,6 +9,7 @@ ghost use Rattle.omp_model.specs.declared.limits.TheConstants.{STACK_LIMIT};
 ghost use Rattle.omp_model.specs.Gates as gates;
 
 use crate::board::Board;
+use crate::head::all_left;
 use c_model::{SyncKind, SyncStage, Upcoming};
 use omp_model::{Arrival, Event, IMPLICIT_REGION, INITIAL_TASK, STACK_LIMIT, ThreadStage};
 use task_pool::{Condition, TaskKind};
@@ -22,25 +23,25 @@ impl Board {
         let Some(found) = self.threads.get(thread as usize) else {
             return Arrival::Waits;
         };
-        match found.stage() {
+        match found.stage {
             ThreadStage::Unmade | ThreadStage::Ended => return Arrival::Waits,
             ThreadStage::Made => return Arrival::RuntimeEvent(Event::ThreadBegin),
             ThreadStage::Begun => {}
         }
-        if found.invited() != 0 {
+        if found.invited != 0 {
             return Arrival::RuntimeEvent(Event::MemberBegin {
-                region: found.invited(),
-                task: self.next_task(),
+                region: found.invited,
+                task: self.tasks.next(),
             });
         }
         let current = found.current();
-        if found.undeferred() != 0 {
+        if found.undeferred != 0 {
             return Arrival::RuntimeEvent(Event::TaskBegin {
                 prior: current,
-                task: found.undeferred(),
+                task: found.undeferred,
             });
         }
-        if let Some(share) = found.taken() {
+        if let Some(share) = found.taken {
             return Arrival::RuntimeEvent(Event::Dispatch(share));
         }
         if current == 0 {
@@ -67,7 +68,7 @@ impl Board {
         ensures { result ≡ gates.arrival_without_task self.now.world thread }
     {
         if thread == 0 {
-            return arrival_around(self.condition(INITIAL_TASK));
+            return arrival_around(self.pool.task(INITIAL_TASK).condition);
         }
         if self.main_returned() && self.has_no_tasks(IMPLICIT_REGION) {
             Arrival::RuntimeEvent(Event::ThreadEnd)
@@ -85,8 +86,8 @@ impl Board {
         match upcoming {
             Upcoming::Step => Arrival::Steps,
             Upcoming::Event => Arrival::CodeEvent,
-            Upcoming::End => self.arrival_at_end(thread, task, self.kind(task)),
-            Upcoming::RegionEnd => comes_if(self.all_left(self.tasks.forked(task))),
+            Upcoming::End => self.arrival_at_end(thread, task, self.pool.task(task).kind),
+            Upcoming::RegionEnd => comes_if(all_left(self.regions.head(self.tasks.forked(task)))),
             Upcoming::Sync { kind, stage } => self.arrival_at_sync(thread, kind, stage),
             Upcoming::Acquire(wait_id) => comes_if(!self.is_owned(wait_id)),
             Upcoming::Test(wait_id) => {
@@ -240,6 +241,17 @@ impl Board {
         matches!(self.tasks.standing(INITIAL_TASK), Upcoming::End)
     }
 
+    /// Whether some task owns the lock or critical.
+    #[inline(always)]
+    pub fn is_owned(&self, wait_id: u32) -> bool
+        ensures { result ≡ gates.is_owned self.now.world wait_id }
+    {
+        match self.locks.may_take(wait_id) {
+            Ok(may) => !may,
+            Err(_) => false,
+        }
+    }
+
     /// Whether no explicit task of the region is unfinished.
     fn has_no_tasks(&self, region: u32) -> bool
         ensures { result ≡ gates.has_no_tasks self.now.world region }
@@ -254,7 +266,7 @@ impl Board {
         self.threads
             .iter()
             .skip(1)
-            .all(|thread| is_out(thread.stage()))
+            .all(|thread| is_out(thread.stage))
     }
 }
 

@@ -1,4 +1,4 @@
-//! Events, of a task's code and beside all code: what happens at their Go.
+//! Events, of a task's code and beside all code: what happens at their Go. The functions at the end are a table: one an event, with its numbers.
 
 ghost use Rattle.std.specs.Prelude.{◌≡◌, ◌≤◌, ◌-◌, true};
 ghost use Rattle.c_syntax.specs.language.Numbered.{tree_at};
@@ -11,7 +11,6 @@ ghost use Rattle.c_model.specs.Step.{silent};
 ghost use Rattle.c_steps.specs.ControlView.{outcome_at};
 ghost use Rattle.c_steps.specs.Passing.{IsEventOfNext};
 ghost use Rattle.omp_model.specs.declared.event.Arrival.TheVariants.{CodeEvent, RuntimeEvent};
-ghost use Rattle.omp_model.specs.declared.event.Event.TheVariants as event;
 ghost use Rattle.omp_model.specs.Changes.{with_masked_skipped, gone_to, with_code};
 ghost use Rattle.omp_model.specs.Gates.{arrival};
 ghost use Rattle.omp_model.specs.EventEffects as effects;
@@ -24,7 +23,7 @@ ghost use Rattle.omp_board.specs.Tasks.{IsNamedIn, IsStill};
 
 use crate::board::Board;
 use crate::board::meeting::work_met;
-use c_model::{Answer, Ask, MutexKind, Point, SyncKind, SyncStage, Work, WorkKind};
+use c_model::{Answer, Ask, Point, Work, WorkKind};
 use c_steps::Next;
 use omp_model::{Endpoint, Event, Halt};
 
@@ -123,8 +122,8 @@ impl Board {
             (moment_of self.old.world thread) point result self.new.world }
         ensures program { self.new.program ≡ self.old.program }
     {
-        let event = self.event_at(thread, point);
         let executes = self.executes(thread, point);
+        let event = self.event_at(thread, point, executes);
         match self.take_effect(thread, point) {
             Ok(()) => {
                 self.go_past(thread, point, node, executes);
@@ -134,60 +133,86 @@ impl Board {
         }
     }
 
-    /// The event at this point, with its numbers: one line for each.
+    /// The event at this point, with its numbers. `executes` counts at the begin of a `single` alone.
     #[inline(always)]
-    fn event_at(&self, thread: u8, point: Point) -> Event
+    fn event_at(&self, thread: u8, point: Point, executes: bool) -> Event
+        requires { executes ≡ effects.executes_point self.now.world thread point }
         ensures { result ≡ effects.event_of_point self.now.world thread point }
     {
         match point {
             Point::ParallelBegin { codeptr, requested } => Event::ParallelBegin {
-                region: self.next_region(),
+                region: self.regions.next(),
                 requested: requested.unsigned_abs(),
                 codeptr,
             },
             Point::ParallelEnd { codeptr } => Event::ParallelEnd {
-                region: self.forked(self.current(thread)),
+                region: self.tasks.forked(self.current(thread)),
                 codeptr,
             },
             Point::TaskCreate {
                 codeptr,
                 undeferred,
             } => Event::TaskCreate {
-                task: self.next_task(),
+                task: self.tasks.next(),
                 undeferred,
                 codeptr,
             },
-            Point::WorkBegin { codeptr, work } => {
-                work_begin(codeptr, work, self.executes(thread, point))
-            }
+            Point::WorkBegin { codeptr, work } => work_begin(codeptr, work, executes),
             Point::WorkEnd {
                 codeptr,
                 kind,
                 count,
-            } => work_event(Endpoint::End, kind, count, codeptr),
-            Point::MaskedBegin { codeptr } => masked_event(Endpoint::Begin, codeptr),
-            Point::MaskedEnd { codeptr } => masked_event(Endpoint::End, codeptr),
+            } => Event::Work {
+                endpoint: Endpoint::End,
+                kind,
+                count,
+                codeptr,
+            },
+            Point::MaskedBegin { codeptr } => Event::Masked {
+                endpoint: Endpoint::Begin,
+                codeptr,
+            },
+            Point::MaskedEnd { codeptr } => Event::Masked {
+                endpoint: Endpoint::End,
+                codeptr,
+            },
             Point::Sync {
                 codeptr,
                 kind,
                 stage,
-            } => sync_event(kind, stage, codeptr),
+            } => Event::Sync {
+                kind,
+                stage,
+                codeptr,
+            },
             Point::MutexAcquire {
                 codeptr,
                 wait_id,
                 kind,
                 ..
-            } => acquire_event(kind, wait_id, codeptr),
+            } => Event::MutexAcquire {
+                kind,
+                wait_id,
+                codeptr,
+            },
             Point::MutexAcquired {
                 codeptr,
                 wait_id,
                 kind,
-            } => acquired_event(kind, wait_id, codeptr),
+            } => Event::MutexAcquired {
+                kind,
+                wait_id,
+                codeptr,
+            },
             Point::MutexReleased {
                 codeptr,
                 wait_id,
                 kind,
-            } => released_event(kind, wait_id, codeptr),
+            } => Event::MutexReleased {
+                kind,
+                wait_id,
+                codeptr,
+            },
             Point::LockInit { codeptr, wait_id } => Event::LockInit { wait_id, codeptr },
             Point::LockDestroy { codeptr, wait_id } => Event::LockDestroy { wait_id, codeptr },
         }
@@ -232,68 +257,10 @@ fn work_begin(codeptr: u64, work: Work, executes: bool) -> Event
         Work::Single if executes => (WorkKind::SingleExecutor, 1),
         Work::Single => (WorkKind::SingleOther, 1),
     };
-    work_event(Endpoint::Begin, kind, count, codeptr)
-}
-
-/// The event of an end of a worksharing construct's part.
-fn work_event(endpoint: Endpoint, kind: WorkKind, count: u64, codeptr: u64) -> Event
-    ensures { result ≡ event.Work endpoint kind count codeptr }
-{
     Event::Work {
-        endpoint,
+        endpoint: Endpoint::Begin,
         kind,
         count,
-        codeptr,
-    }
-}
-
-/// The event of an end of a `masked`.
-fn masked_event(endpoint: Endpoint, codeptr: u64) -> Event
-    ensures { result ≡ event.Masked endpoint codeptr }
-{
-    Event::Masked { endpoint, codeptr }
-}
-
-/// An event of a barrier or taskwait.
-fn sync_event(kind: SyncKind, stage: SyncStage, codeptr: u64) -> Event
-    ensures { result ≡ event.Sync kind stage codeptr }
-{
-    Event::Sync {
-        kind,
-        stage,
-        codeptr,
-    }
-}
-
-/// A lock or critical is asked for.
-fn acquire_event(kind: MutexKind, wait_id: u32, codeptr: u64) -> Event
-    ensures { result ≡ event.MutexAcquire kind wait_id codeptr }
-{
-    Event::MutexAcquire {
-        kind,
-        wait_id,
-        codeptr,
-    }
-}
-
-/// It comes to be owned.
-fn acquired_event(kind: MutexKind, wait_id: u32, codeptr: u64) -> Event
-    ensures { result ≡ event.MutexAcquired kind wait_id codeptr }
-{
-    Event::MutexAcquired {
-        kind,
-        wait_id,
-        codeptr,
-    }
-}
-
-/// It is given back.
-fn released_event(kind: MutexKind, wait_id: u32, codeptr: u64) -> Event
-    ensures { result ≡ event.MutexReleased kind wait_id codeptr }
-{
-    Event::MutexReleased {
-        kind,
-        wait_id,
         codeptr,
     }
 }

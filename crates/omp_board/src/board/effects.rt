@@ -83,10 +83,10 @@ impl Board {
             return Err(Halt::Trap(TEAM_SIZE));
         }
         let task = self.current(thread);
-        let region = self.next_region();
+        let region = self.regions.next();
         let size = self.team_size(thread, requested.unsigned_abs());
-        self.set_forked(task, region);
-        self.add_region(task, size);
+        self.tasks.set_forked(task, region);
+        self.regions.add(task, size);
         Ok(())
     }
 
@@ -109,8 +109,10 @@ impl Board {
         ensures { let W = self.old.world in
             self.new ≡ record self.old { world = changes.region_over W (task_at W (current W thread)).forked } }
     {
-        let region = self.forked(self.current(thread));
-        self.end_region(region);
+        let region = self.tasks.forked(self.current(thread));
+        let mut head = *self.regions.head(region);
+        head.ended = true;
+        self.regions.set_head(region, head);
     }
 
     /// An explicit task is made.
@@ -203,7 +205,8 @@ impl Board {
         match stage {
             SyncStage::RegionBegin => self.meet_next(thread, barrier_met(codeptr, kind)),
             SyncStage::WaitEnd => {
-                self.pass_barrier(thread);
+                let (region, member) = self.place_in_team(thread);
+                self.regions.pass(region, member);
                 Ok(())
             }
             SyncStage::WaitBegin | SyncStage::RegionEnd => Ok(()),
@@ -236,7 +239,7 @@ impl Board {
             W
             result W W }
     {
-        match self.may_take(wait_id) {
+        match self.locks.may_take(wait_id) {
             Ok(_) => Ok(()),
             Err(fault) => Err(trap(fault)),
         }
@@ -252,7 +255,7 @@ impl Board {
     {
         self.may_acquire(wait_id)?;
         let task = self.current(thread);
-        self.take(wait_id, task);
+        self.locks.take(wait_id, task);
         Ok(())
     }
 
@@ -265,7 +268,7 @@ impl Board {
         ensures kept { KeepsPassing self.old self.new }
     {
         let task = self.current(thread);
-        self.give_back(wait_id, task).map_err(trap)
+        self.locks.give(wait_id, task).map_err(trap)
     }
 
     /// A lock is initialised.
@@ -277,7 +280,7 @@ impl Board {
             result W self.new.world }
         ensures kept { KeepsPassing self.old self.new }
     {
-        self.init(wait_id).map_err(trap)
+        self.locks.init(wait_id).map_err(trap)
     }
 
     /// A lock is destroyed.
@@ -288,7 +291,7 @@ impl Board {
             result W self.new.world }
         ensures kept { KeepsPassing self.old self.new }
     {
-        self.destroy(wait_id).map_err(trap)
+        self.locks.destroy(wait_id).map_err(trap)
     }
 
     /// The limit that the event meets, if it meets one.
@@ -340,7 +343,7 @@ impl Board {
             Event::MemberEnd { task, .. } => {
                 self.pop(thread);
                 self.finish(task);
-                self.empty(task);
+                self.tasks.empty(task);
             }
             Event::TaskBegin { task, .. } => {
                 self.take_up(thread, task);
@@ -348,7 +351,7 @@ impl Board {
             }
             Event::TaskEnd { task } => {
                 self.pop(thread);
-                self.empty(task);
+                self.tasks.empty(task);
             }
             Event::Dispatch(_) => self.share(thread, None),
             _ => {}
@@ -379,7 +382,7 @@ impl Board {
           room = record self.old.room { tasks = 0 };
         } }
     {
-        let parent = self.encountering(region);
+        let parent = self.regions.head(region).task;
         let member = self.member_index(thread, region);
         self.add_member(parent, region);
         self.start(task);
@@ -391,7 +394,10 @@ impl Board {
     fn is_explicit(&self, task: u32) -> bool
         ensures { result ≡ is_explicit_task self.now.world task }
     {
-        matches!(self.kind(task), TaskKind::Explicit | TaskKind::Undeferred)
+        matches!(
+            self.pool.task(task).kind,
+            TaskKind::Explicit | TaskKind::Undeferred
+        )
     }
 }
 

@@ -1,12 +1,50 @@
-//! What members of a team meet at events of their code.
+//! The members of a team: that they begin, and what they meet at events of their code.
 
-ghost use Rattle.std.specs.Prelude.{◌≡◌};
+ghost use Rattle.std.specs.Prelude.{◌≡◌, ◌<◌, IsOk};
 ghost use Rattle.team_parts.specs.Meetings.{HasChunk};
+ghost use Rattle.omp_model.specs.Members.{current_region};
+ghost use Rattle.omp_model.specs.Changes as changes;
 ghost use Rattle.omp_model.specs.EventEffects as effects;
 
+use crate::board::Board;
+use crate::head::member_begun;
 use c_model::{Schedule, SyncKind, Work};
 use omp_codes::sync_kinds;
-use team_parts::{Meeting, Schedule as Dealt};
+use team_parts::{Meeting, Mismatch, Schedule as Dealt};
+
+impl Board {
+    /// The member with this number has begun, with this implicit task.
+    pub(super) fn begin_member(&mut self, region: u32, member: u8, task: u32)
+        ensures { self.new ≡ record self.old { world = changes.member_begun self.old.world region member task } }
+    {
+        let head = member_begun(*self.regions.head(region), member, task);
+        self.regions.set_head(region, head);
+    }
+
+    /// What the team of the thread's region answers where the thread meets this next.
+    #[inline(always)]
+    pub(super) fn meeting_answer(&self, thread: u8, what: Meeting) -> Result<bool, Mismatch>
+        ensures { result ≡ effects.meeting_at self.now.world thread what }
+    {
+        let (region, member) = self.place_in_team(thread);
+        self.regions.meeting_answer(region, member, what)
+    }
+
+    /// The thread meets this next.
+    pub(super) fn meet(&mut self, thread: u8, what: Meeting)
+        requires of_region { self.old.room.region ≡ current_region self.old.world thread }
+        requires room { 0 < self.old.room.meetings }
+        requires chunk { HasChunk what }
+        requires same { IsOk (effects.meeting_at self.old.world thread what) }
+        ensures { self.new ≡ record self.old {
+          world = effects.after_meeting_at self.old.world thread what;
+          room = record self.old.room { meetings = 0 };
+        } }
+    {
+        let (region, member) = self.place_in_team(thread);
+        self.regions.meet(region, member, what);
+    }
+}
 
 /// How a loop is dealt. A chunk that goes to whoever asks has at least one iteration.
 fn dealt_by(schedule: Schedule) -> Dealt

@@ -5,6 +5,7 @@ ghost use Rattle.omp_model.specs.Returning as returning;
 
 use crate::board::Board;
 use crate::board::arrival::is_barrier;
+use crate::head::member_left;
 use c_model::SyncStage;
 use omp_model::{Event, ThreadStage};
 
@@ -17,10 +18,14 @@ impl Board {
         match event {
             Event::ThreadEnd => self.set_stage(thread, ThreadStage::Ended),
             Event::ParallelBegin { region, .. } => self.open(thread, region),
-            Event::ParallelEnd { .. } => self.set_forked(self.current(thread), 0),
+            Event::ParallelEnd { .. } => {
+                let task = self.current(thread);
+                self.tasks.set_forked(task, 0);
+            }
             Event::MemberEnd { region, .. } => {
                 let member = self.member_index(thread, region);
-                self.leave(region, member);
+                let head = member_left(*self.regions.head(region), member);
+                self.regions.set_head(region, head);
             }
             Event::TaskCreate {
                 task,
@@ -35,7 +40,8 @@ impl Board {
                 ..
             } => {
                 if is_barrier(kind) {
-                    self.arrive(thread);
+                    let (region, member) = self.place_in_team(thread);
+                    self.regions.arrive(region, member);
                 }
             }
             _ => {}

@@ -72,14 +72,14 @@ impl Board {
         let Some(found) = self.threads.get(thread as usize) else {
             return None;
         };
-        match found.stage() {
+        match found.stage {
             ThreadStage::Unmade | ThreadStage::Made | ThreadStage::Ended => return None,
             ThreadStage::Begun => {}
         }
-        if found.invited() != 0 || found.undeferred() != 0 {
+        if found.invited != 0 || found.undeferred != 0 {
             return None;
         }
-        if let Some(_) = found.taken() {
+        if let Some(_) = found.taken {
             return None;
         }
         let current = found.current();

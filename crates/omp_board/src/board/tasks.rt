@@ -1,10 +1,10 @@
 //! What changes of tasks.
 
-ghost use Rattle.std.specs.Prelude.{◌≡◌, ◌==◌, ◌<◌, ◌≤◌, Ok, IsOk, length, slice_get, slice_set};
+ghost use Rattle.std.specs.Prelude.{◌≡◌, ◌==◌, ◌<◌, IsOk, length, slice_get};
 ghost use Rattle.c_steps.specs.Beginning.{IsCreation};
 ghost use Rattle.task_pool.specs.Tasks.{MayBeParent};
 ghost use Rattle.task_pool.specs.View.{answer_to_add};
-ghost use Rattle.omp_model.specs.State.{pooled_at, task_at};
+ghost use Rattle.omp_model.specs.State.{task_at};
 ghost use Rattle.omp_model.specs.Changes as changes;
 ghost use Rattle.omp_model.specs.EventEffects.{kind_of_task, member_code};
 ghost use Rattle.task_pool.specs.declared.task.TaskKind.TheVariants as kind;
@@ -15,32 +15,11 @@ use crate::board::Board;
 use task_pool::{Condition, TASK_LIMIT, TaskKind};
 
 impl Board {
-    /// The identity of the next task.
-    pub fn next_task(&self) -> u32
-        ensures { result ≡ length self.now.world.tasks }
-    {
-        self.tasks.next()
-    }
-
     /// Whether no further task can be made.
     pub fn is_full(&self) -> bool
         ensures { result ≡ (length self.now.world.pool.tasks == TASK_LIMIT) }
     {
         self.pool.made_count() == TASK_LIMIT
-    }
-
-    /// The kind of the task.
-    pub fn kind(&self, task: u32) -> TaskKind
-        ensures { result ≡ (pooled_at self.now.world task).kind }
-    {
-        self.pool.task(task).kind
-    }
-
-    /// How far the task has come.
-    pub fn condition(&self, task: u32) -> Condition
-        ensures { result ≡ (pooled_at self.now.world task).condition }
-    {
-        self.pool.task(task).condition
     }
 
     /// A member's implicit task is made, in the region that this task has forked.
@@ -87,7 +66,7 @@ impl Board {
     pub(super) fn make_ready(&mut self, task: u32)
         ensures { self.new ≡ record self.old { world = changes.with_ready_task self.old.world task } }
     {
-        if let Condition::Made = self.condition(task) {
+        if let Condition::Made = self.pool.task(task).condition {
             self.pool.ready(task);
         }
     }
@@ -96,7 +75,7 @@ impl Board {
     pub(super) fn start(&mut self, task: u32)
         ensures { self.new ≡ record self.old { world = changes.with_started_task self.old.world task } }
     {
-        match self.condition(task) {
+        match self.pool.task(task).condition {
             Condition::Finished => {}
             Condition::Made | Condition::Ready | Condition::Started => self.pool.start(task),
         }
@@ -106,22 +85,8 @@ impl Board {
     pub(super) fn finish(&mut self, task: u32)
         ensures { self.new ≡ record self.old { world = changes.with_finished_task self.old.world task } }
     {
-        if let Condition::Started = self.condition(task) {
+        if let Condition::Started = self.pool.task(task).condition {
             self.pool.finish(task);
         }
-    }
-
-    /// Nothing is kept of the code of the task.
-    pub(super) fn empty(&mut self, task: u32)
-        ensures { self.new ≡ record self.old { world = changes.without_code self.old.world task } }
-    {
-        self.tasks.empty(task);
-    }
-
-    /// The task has forked this region, or, with 0, the region that it had forked is over.
-    pub(super) fn set_forked(&mut self, task: u32, region: u32)
-        ensures { self.new ≡ record self.old { world = changes.with_forked_region self.old.world task region } }
-    {
-        self.tasks.set_forked(task, region);
     }
 }

@@ -11,23 +11,13 @@ use crate::thread::Thread;
 use omp_model::{Share, ThreadStage};
 
 impl Board {
-    /// How far the thread has come.
-    pub fn stage(&self, thread: u8) -> ThreadStage
-        ensures { result ≡ (thread_at self.now.world thread).stage }
-    {
-        match self.threads.get(thread as usize) {
-            Some(thread) => thread.stage(),
-            None => ThreadStage::Unmade,
-        }
-    }
-
     /// How many tasks are on the thread's stack.
     pub fn depth(&self, thread: u8) -> usize
         ensures counted { result ≡ length (thread_at self.now.world thread).stack }
         ensures few { result ≤ STACK_LIMIT }
     {
         match self.threads.get(thread as usize) {
-            Some(thread) => thread.depth(),
+            Some(thread) => thread.stack.len(),
             None => 0,
         }
     }
@@ -37,7 +27,7 @@ impl Board {
         ensures { self.new ≡ record self.old { world = changes.with_stage self.old.world thread stage } }
     {
         if let Some(thread) = self.threads.get_mut(thread as usize) {
-            thread.set_stage(stage);
+            thread.stage = stage;
         }
     }
 
@@ -66,7 +56,7 @@ impl Board {
         ensures { self.new ≡ record self.old { world = changes.with_undeferred self.old.world thread task } }
     {
         if let Some(thread) = self.threads.get_mut(thread as usize) {
-            thread.detain(task);
+            thread.undeferred = task;
         }
     }
 
@@ -75,7 +65,7 @@ impl Board {
         ensures { self.new ≡ record self.old { world = changes.with_taken_share self.old.world thread share } }
     {
         if let Some(thread) = self.threads.get_mut(thread as usize) {
-            thread.share(share);
+            thread.taken = share;
         }
     }
 
@@ -84,7 +74,7 @@ impl Board {
         ensures { self.new ≡ record self.old { world = changes.with_members_invited self.old.world thread region } }
     {
         if self.is_outermost(region) {
-            let size = self.regions.size(region);
+            let size = self.regions.head(region).size;
             invite(&mut self.threads, region, size as usize);
         } else if let Some(thread) = self.threads.get_mut(thread as usize) {
             thread.invite(region);

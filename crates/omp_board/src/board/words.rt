@@ -15,7 +15,7 @@ impl Board {
         ensures { result ≡ words.thread_word self.now.world thread }
     {
         let value = match self.threads.get(thread as usize) {
-            Some(thread) => thread.word(),
+            Some(thread) => thread.word,
             None => 0,
         };
         Word {
@@ -30,7 +30,7 @@ impl Board {
     {
         Word {
             identity: region,
-            value: self.regions.word(region),
+            value: self.regions.head(region).word,
         }
     }
 
@@ -50,11 +50,11 @@ impl Board {
     {
         match target {
             Target::Thread(thread) => match self.threads.get(thread as usize) {
-                Some(thread) => !matches!(thread.stage(), ThreadStage::Unmade),
+                Some(thread) => !matches!(thread.stage, ThreadStage::Unmade),
                 None => false,
             },
-            Target::Parallel(region) => 0 < region && region < self.next_region(),
-            Target::Task(task) => 0 < task && task < self.next_task(),
+            Target::Parallel(region) => 0 < region && region < self.regions.next(),
+            Target::Task(task) => 0 < task && task < self.tasks.next(),
         }
     }
 
@@ -65,10 +65,14 @@ impl Board {
         match target {
             Target::Thread(thread) => {
                 if let Some(thread) = self.threads.get_mut(thread as usize) {
-                    thread.store(word);
+                    thread.word = word;
                 }
             }
-            Target::Parallel(region) => self.regions.store_word(region, word),
+            Target::Parallel(region) => {
+                let mut head = *self.regions.head(region);
+                head.word = word;
+                self.regions.set_head(region, head);
+            }
             Target::Task(task) => self.tasks.store_word(task, word),
         }
     }
@@ -88,7 +92,7 @@ impl Board {
     fn threads_over(&self) -> bool
         ensures { result ≡ cause.threads_over self.now.world }
     {
-        self.threads.iter().all(|thread| is_out(thread.stage()))
+        self.threads.iter().all(|thread| is_out(thread.stage))
     }
 
     /// The bytes that were printed.

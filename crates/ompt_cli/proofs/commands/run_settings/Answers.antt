@@ -1,6 +1,5 @@
 use Rattle.std.proofs.Common.{◌∙◌, Err, ap, refl, sym}
-use Rattle.ompt_cli.specs.declared.end.End.{End, TheVariants.Memory, TheVariants.ReadFault}
-use Rattle.ompt_cli.proofs.{Carrying.end_carried, Carrying.run_carried, Reading.ends-memory, Telling.err-end}
+use Rattle.ompt_cli.{specs.declared.end.End.End, specs.declared.end.End.TheVariants.Memory, specs.declared.end.End.TheVariants.ReadFault, proofs.Carrying.end_carried, proofs.Carrying.run_carried, proofs.Reading.ends-memory, proofs.Telling.err-end}
 use Rattle.ompt_cli.proofs.commands.run_settings.Goals as goal
 
 pub returns-in-Ok-run_command-clause-carried : goal.returns-in-Ok-run_command-clause-carried

@@ -1,6 +1,5 @@
 use Rattle.std.proofs.Common.{subst}
-use Rattle.ompt_cli.specs.Text.{Spells}
-use Rattle.ompt_cli.proofs.Written.{certificate-of}
+use Rattle.ompt_cli.{specs.Text.Spells, proofs.Written.certificate-of}
 use Rattle.ompt_cli.proofs.rerunning.judge.Goals as goal
 
 pub returns-in-Ok-clause-certified : goal.returns-in-Ok-clause-certified

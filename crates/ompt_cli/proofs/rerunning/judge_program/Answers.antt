@@ -1,8 +1,6 @@
 use Rattle.std.proofs.Common.{ap, ◌∙◌, ◌++◌, List, ℕ, length}
 use Rattle.std.proofs.lemmas.Result.{IfOk-weaker}
-use Rattle.ompt_cli.specs.Names.{heard, run_of_file, line_of_mark}
-use Rattle.ompt_cli.specs.Histories.{heard_text, lines_of_calls}
-use Rattle.ompt_cli.proofs.Written.{lines-heard, written-rerun}
+use Rattle.ompt_cli.{specs.Names.heard, specs.Names.run_of_file, specs.Names.line_of_mark, specs.Histories.heard_text, specs.Histories.lines_of_calls, proofs.Written.lines-heard, proofs.Written.written-rerun}
 use Rattle.ompt_cli.proofs.rerunning.judge_program.Goals as goal
 
 pub returns-in-Ok-Legal-clause-rerun : goal.returns-in-Ok-Legal-clause-rerun

@@ -1,6 +1,5 @@
 use Rattle.std.proofs.Common.{◌∙◌, subst, sym}
-use Rattle.ompt_cli.specs.Commands.{HasGuests}
-use Rattle.ompt_cli.proofs.Telling.{command-is}
+use Rattle.ompt_cli.{specs.Commands.HasGuests, proofs.Telling.command-is}
 use Rattle.ompt_cli.proofs.run.run_history.Goals as goal
 
 pub write_history_of_run-requires-clause-observes : goal.write_history_of_run-requires-clause-observes

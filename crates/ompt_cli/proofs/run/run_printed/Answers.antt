@@ -1,16 +1,14 @@
 use Rattle.std.proofs.Common.{ℕ, ◌∙◌, List, subst, sym}
-use Rattle.ompt_words.specs.declared.settings.Command.TheVariants.{Run as Running}
 use Rattle.ompt_words.specs.declared.settings.RunOutput.TheVariants as output
-use Rattle.ompt_cli.specs.Commands.{HasGuests, HasWritten, unless_memory}
-use Rattle.ompt_cli.proofs.Telling.{command-is, written-as}
+use Rattle.ompt_words.specs.declared.settings.Command.TheVariants.{Run as Running}
+use Rattle.ompt_cli.{specs.Commands.HasGuests, specs.Commands.HasWritten, specs.Commands.unless_memory, proofs.Telling.command-is, proofs.Telling.written-as}
 use Rattle.ompt_cli.proofs.run.run_printed.Goals as goal
 
 pub returns-clause-ran : goal.returns-clause-ran
 returns-clause-ran g c =
     let report = c.in_ok-report.field-0.report in
     let observes = c.in_ok-report.ensures.observes in
-    let command = command-is c.args.job report observes ∙ c.requires.command in
-    record {
+    let command = command-is c.args.job report observes ∙ c.requires.command in record {
       observes = observes;
       stays = λ other. absurd (other (subst HasGuests (sym command) tt));
       ended = c.write_run-end.ensures.end;

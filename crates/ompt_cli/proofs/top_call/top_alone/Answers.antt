@@ -1,15 +1,16 @@
 use Rattle.std.proofs.Common.{Err, ap}
-use Rattle.ompt_words.specs.declared.fault.WordsFault.{WordsFault}
+use Rattle.std.proofs.lemmas.Bool.{not-false, not-true}
 use Rattle.ompt_words.specs.declared.settings.Request.TheVariants as request
+use Rattle.ompt_words.specs.declared.fault.WordsFault.{WordsFault}
+use Rattle.ompt_cli.proofs.Carrying.{in-range, read_carried, serial-reported, taken-as}
 use Rattle.ompt_cli.specs.Words.{texts}
-use Rattle.ompt_cli.proofs.Carrying.{in-range, is-serial, not-serial, read_carried, serial-reported, taken-as}
 use Rattle.ompt_cli.proofs.top_call.top_alone.Goals as goal
 
 pub returns-then-not-settings-clause-asked : goal.returns-then-not-settings-clause-asked
 returns-then-not-settings-clause-asked g c =
     let of = c.in-Ok-Run.ensures in
     let taken = taken-as (texts c.args.words.now) c.in-Ok-Run.field-0 (request.Run c.in-Ok-Run.settings) c.in-Ok-Run.field-0-is of.read of.exact of.form of.read_form of.asked of.clash in
-    (taken, in-range (texts c.args.words.now) c.in-Ok-Run.settings taken, not-serial _ c.if-not-settings.true)
+    (taken, in-range (texts c.args.words.now) c.in-Ok-Run.settings taken, not-true _ c.if-not-settings.true)
 
 pub returns-else-not-settings-clause-carried : goal.returns-else-not-settings-clause-carried
 returns-else-not-settings-clause-carried g c =
@@ -22,7 +23,7 @@ returns-else-not-settings-clause-serial g c =
     let of = c.in-Ok-Run.ensures in
     let taken = taken-as (texts c.args.words.now) c.in-Ok-Run.field-0 (request.Run c.in-Ok-Run.settings) c.in-Ok-Run.field-0-is of.read of.exact of.form of.read_form of.asked of.clash in
     rw c.tell.ensures.ran
-    (serial-reported (texts c.args.words.now) c.in-Ok-Run.settings taken (is-serial _ c.if-not-settings.false) _ _ c.run_settings-outcome.result.ran (c.run_settings-outcome.ensures.carried (texts c.args.words.now) taken).ran)
+    (serial-reported (texts c.args.words.now) c.in-Ok-Run.settings taken (not-false _ c.if-not-settings.false) _ _ c.run_settings-outcome.result.ran (c.run_settings-outcome.ensures.carried (texts c.args.words.now) taken).ran)
 
 pub returns-in-Ok-Read-clause-carried : goal.returns-in-Ok-Read-clause-carried
 returns-in-Ok-Read-clause-carried g c =

@@ -1,7 +1,5 @@
 use Rattle.std.proofs.Common.{◌∙◌}
-use Rattle.thread_run.specs.Drivers.{IsSlot}
-use Rattle.thread_run.proofs.Drivers.{kept-then}
-use Rattle.thread_run.proofs.team.drive_here.Goals.{in-None, in-Some+then-not-visit_all}
+use Rattle.thread_run.{specs.Drivers.IsSlot, proofs.Drivers.kept-then, proofs.team.drive_here.Goals.in-None, proofs.team.drive_here.Goals.in-Some+then-not-visit_all}
 use Rattle.thread_run.proofs.team.drive_here.Goals as goal
 
 pub loop-preserved : goal.loop-preserved

@@ -1,7 +1,6 @@
 use Rattle.std.proofs.Common.{rules, ◌∷◌, [], length, length-append, ap, List, arith}
 use Rattle.step_book.specs.Sharing.{PassView}
-use Rattle.thread_run.specs.Drivers.{IsSlot}
-use Rattle.thread_run.proofs.Drivers.{finish-more, whole-next}
+use Rattle.thread_run.{specs.Drivers.IsSlot, proofs.Drivers.finish-more, proofs.Drivers.whole-next}
 use Rattle.thread_run.proofs.team.finish_all.Goals as goal
 
 pub loop-slot-preserved : goal.loop-slot-preserved

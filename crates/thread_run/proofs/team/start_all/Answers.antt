@@ -1,7 +1,5 @@
 use Rattle.std.proofs.Common.{◌≡◌, rules, ◌+◌, ◌++◌, ◌∷◌, [], ◌∙◌, ℕ, drop, length, length-append, sym, ap, List, arith}
-use Rattle.thread_run.specs.{declared.team.Slot.Slot, Drivers.IsDriver, Drivers.IsSlot}
-use Rattle.thread_run.proofs.Drivers.{driver-next, for-more, rest-next, whole-next}
-use Rattle.thread_run.proofs.team.start_all.Goals.{then-place-eq0, else-place-eq0}
+use Rattle.thread_run.{specs.declared.team.Slot.Slot, specs.Drivers.IsDriver, specs.Drivers.IsSlot, proofs.Drivers.driver-next, proofs.Drivers.for-more, proofs.Drivers.rest-next, proofs.Drivers.whole-next, proofs.team.start_all.Goals.then-place-eq0, proofs.team.start_all.Goals.else-place-eq0}
 use Rattle.thread_run.proofs.team.start_all.Goals as goal
 
 pub loop-pass-preserved : goal.loop-pass-preserved

@@ -1,7 +1,6 @@
 use Rattle.std.proofs.Common.{rules, ◌<◌, length, ◌∙◌, arith}
 use Rattle.std.proofs.lemmas.List.{length-set}
-use Rattle.thread_run.specs.Drivers.{IsSlot}
-use Rattle.thread_run.proofs.Drivers.{kept-set}
+use Rattle.thread_run.{specs.Drivers.IsSlot, proofs.Drivers.kept-set}
 use Rattle.thread_run.proofs.team.visit_all.Goals as goal
 
 pub loop-place-preserved : goal.loop-place-preserved

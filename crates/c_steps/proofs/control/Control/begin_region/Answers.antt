@@ -11,7 +11,7 @@ use Rattle.c_steps.proofs.control.Control.begin_region.Goals as goal
 
 pub returns : goal.returns
 returns c =
-    let is : c.then_if.new.self ≡ then_if c.own_cells-cells.result (then_item (item.Start c.statement-part.result) (pushed (frame.Combining c.args.node c.first_listed.result c.args.names) c.args.self.now)) =
+    let is : c.then_if.new.self ≡ then_if c.own_cells-cells.result (then_item (item.Start c.statement-part.result) (pushed (frame.Combining c.args.node.number c.first_listed.result c.args.names) c.args.self.now)) =
     c.then_if.ensures ∙ ap (λ (held : ControlView). then_if c.own_cells-cells.result held) (c.then.ensures ∙ ap (λ (held : ControlView). then_item (item.Start c.statement-part.result) held) c.push.ensures) in
-    subst (λ (new : ControlView). IsPutBefore c.args.code.now (region_items (tree_at c.args.code.now.trees c.args.node) (with_file c.args.code.now c.args.names)) c.args.self.now new) (sym is)
-    (region_put c.args.code.now c.args.self.now c.args.node c.args.names c.first_listed.result c.statement-part.result c.own_cells-cells.result c.requires.node (c.first_listed.ensures.listed (tree_at c.args.code.now.trees c.args.node)) c.statement-part.ensures.statement c.statement-part.ensures.there c.own_cells-cells.ensures.cells c.own_cells-cells.ensures.item)
+    subst (λ (new : ControlView). IsPutBefore c.args.node.code.now (region_items (tree_at c.args.node.code.now.trees c.args.node.number) (with_file c.args.node.code.now c.args.names)) c.args.self.now new) (sym is)
+    (region_put c.args.node.code.now c.args.self.now c.args.node.number c.args.names c.first_listed.result c.statement-part.result c.own_cells-cells.result c.args.node.there (c.first_listed.ensures.listed (tree_at c.args.node.code.now.trees c.args.node.number)) c.statement-part.ensures.statement c.statement-part.ensures.there c.own_cells-cells.ensures.cells c.own_cells-cells.ensures.item)

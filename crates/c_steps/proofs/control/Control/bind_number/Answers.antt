@@ -9,7 +9,7 @@ use Rattle.c_steps.proofs.control.Control.bind_number.Goals as goal
 -- src/control/declaring.rt
 pub bind-requires-clause-room : goal.bind-requires-clause-room
 bind-requires-clause-room c =
-    rw (c.step.ensures, c.requires.ready.brings) (step_brings c.args.code.now c.args.name c.requires.name)
+    rw (c.step.ensures, c.requires.ready.brings) (step_brings c.args.name.code.now c.args.name.number c.args.name.there)
 
 -- src/control/declaring.rt
 pub returns : goal.returns
@@ -20,7 +20,7 @@ returns c =
     let is_after : c.push.new.self ≡ record c.args.cells.now { cells = c.args.cells.now.cells ++ c.args.number ∷ [] } = search rules in
     let within : c.args.self.now.base ≤ length c.args.self.now.names = search rules in
     record {
-      step = bound_step c.args.code.now c.args.view c.args.self.now c.then_if.new.self c.args.cells.now c.push.new.self c.args.then c.new_entry-entry.result _ _ c.args.number c.requires.ready.stepping within room c.new_entry-entry.ensures.entry is_new is_after;
+      step = bound_step c.args.name.code.now c.args.view c.args.self.now c.then_if.new.self c.args.cells.now c.push.new.self c.args.then c.new_entry-entry.result _ _ c.args.number c.requires.ready.stepping within room c.new_entry-entry.ensures.entry is_new is_after;
       settled = search rules;
       numbers = tt;
       frames = search (rules, items_if_cases);

@@ -12,10 +12,10 @@ use Rattle.c_steps.proofs.control.Control.make_listed.Goals as goal
 
 pub loop-found-init : goal.loop-found-init
 loop-found-init c =
-    let code = c.args.code.now in
+    let code = c.args.node.code.now in
     let old = c.args.self.now in
     let before = c.args.cells.now in
-    let construct = tree_at code.trees c.args.node in
+    let construct = tree_at code.trees c.args.node.number in
     let whole = listed_variables construct in
     let around = bound_in code old before in
     let copies = map (listed_copy around) whole in
@@ -28,10 +28,10 @@ loop-found-init c =
 
 pub make_named-requires-clause-room : goal.make_named-requires-clause-room
 make_named-requires-clause-room c =
-    let code = c.args.code.now in
+    let code = c.args.node.code.now in
     let old = c.args.self.now in
     let before = c.args.cells.now in
-    let construct = tree_at code.trees c.args.node in
+    let construct = tree_at code.trees c.args.node.number in
     let whole = listed_variables construct in
     let around = bound_in code old before in
     let copies = map (listed_copy around) whole in
@@ -48,10 +48,10 @@ make_named-requires-clause-room c =
 
 pub loop-found-preserved : goal.loop-found-preserved
 loop-found-preserved c =
-    let code = c.args.code.now in
+    let code = c.args.node.code.now in
     let old = c.args.self.now in
     let before = c.args.cells.now in
-    let construct = tree_at code.trees c.args.node in
+    let construct = tree_at code.trees c.args.node.number in
     let whole = listed_variables construct in
     let around = bound_in code old before in
     let copies = map (listed_copy around) whole in
@@ -70,10 +70,10 @@ loop-found-preserved c =
 
 pub returns-clause-control : goal.returns-clause-control
 returns-clause-control c =
-    let code = c.args.code.now in
+    let code = c.args.node.code.now in
     let old = c.args.self.now in
     let before = c.args.cells.now in
-    let construct = tree_at code.trees c.args.node in
+    let construct = tree_at code.trees c.args.node.number in
     let whole = listed_variables construct in
     let around = bound_in code old before in
     let copies = map (listed_copy around) whole in
@@ -88,10 +88,10 @@ returns-clause-control c =
 
 pub returns-clause-cells : goal.returns-clause-cells
 returns-clause-cells c =
-    let code = c.args.code.now in
+    let code = c.args.node.code.now in
     let old = c.args.self.now in
     let before = c.args.cells.now in
-    let construct = tree_at code.trees c.args.node in
+    let construct = tree_at code.trees c.args.node.number in
     let whole = listed_variables construct in
     let around = bound_in code old before in
     let copies = map (listed_copy around) whole in

@@ -7,8 +7,8 @@ use Rattle.c_steps.proofs.control.Control.make_own.Goals as goal
 
 pub make_loop_variable-requires-clause-free : goal.make_loop_variable-requires-clause-free
 make_loop_variable-requires-clause-free c =
-    let code = c.args.code.now in
-    let listed = listed_variables (tree_at code.trees c.args.node) in
+    let code = c.args.node.code.now in
+    let listed = listed_variables (tree_at code.trees c.args.node.number) in
     omega (
       arith,
       ap ControlView.names_now c.make_listed.ensures.control,

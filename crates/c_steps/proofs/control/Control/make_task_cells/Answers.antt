@@ -6,19 +6,19 @@ use Rattle.c_steps.proofs.control.Control.make_task_cells.Goals as goal
 
 pub make_listed-requires-clause-room : goal.make_listed-requires-clause-room
 make_listed-requires-clause-room c =
-    let code = c.args.code.now in
+    let code = c.args.node.code.now in
     let old = c.args.self.now in
     let before = c.args.cells.now in
-    let construct = tree_at code.trees c.args.node in
+    let construct = tree_at code.trees c.args.node.number in
     listed_fit code construct old before c.requires.room
 
 pub make_slots-requires-clause-count : goal.make_slots-requires-clause-count
 make_slots-requires-clause-count c =
-    let code = c.args.code.now in
+    let code = c.args.node.code.now in
     let old = c.args.self.now in
     let before = c.args.cells.now in
-    let construct = tree_at code.trees c.args.node in
-    let slots = c.task_copies.result.now in
+    let construct = tree_at code.trees c.args.node.number in
+    let slots = c.task_copies-slots.result.now in
     let base : old.base ≤ length old.names = search rules in
     let were : c.len-names.result ≡ length old.names = search rules in
     let counted : c.count-count.result ≡ length before.cells = search rules in
@@ -27,11 +27,11 @@ make_slots-requires-clause-count c =
 
 pub make_slots-requires-clause-free : goal.make_slots-requires-clause-free
 make_slots-requires-clause-free c =
-    let code = c.args.code.now in
+    let code = c.args.node.code.now in
     let old = c.args.self.now in
     let before = c.args.cells.now in
-    let construct = tree_at code.trees c.args.node in
-    let slots = c.task_copies.result.now in
+    let construct = tree_at code.trees c.args.node.number in
+    let slots = c.task_copies-slots.result.now in
     let base : old.base ≤ length old.names = search rules in
     let were : c.len-names.result ≡ length old.names = search rules in
     let counted : c.count-count.result ≡ length before.cells = search rules in
@@ -40,11 +40,11 @@ make_slots-requires-clause-free c =
 
 pub make_slots-requires-clause-room : goal.make_slots-requires-clause-room
 make_slots-requires-clause-room c =
-    let code = c.args.code.now in
+    let code = c.args.node.code.now in
     let old = c.args.self.now in
     let before = c.args.cells.now in
-    let construct = tree_at code.trees c.args.node in
-    let slots = c.task_copies.result.now in
+    let construct = tree_at code.trees c.args.node.number in
+    let slots = c.task_copies-slots.result.now in
     let base : old.base ≤ length old.names = search rules in
     let were : c.len-names.result ≡ length old.names = search rules in
     let counted : c.count-count.result ≡ length before.cells = search rules in
@@ -53,11 +53,11 @@ make_slots-requires-clause-room c =
 
 pub returns-clause-control : goal.returns-clause-control
 returns-clause-control c =
-    let code = c.args.code.now in
+    let code = c.args.node.code.now in
     let old = c.args.self.now in
     let before = c.args.cells.now in
-    let construct = tree_at code.trees c.args.node in
-    let slots = c.task_copies.result.now in
+    let construct = tree_at code.trees c.args.node.number in
+    let slots = c.task_copies-slots.result.now in
     let base : old.base ≤ length old.names = search rules in
     let were : c.len-names.result ≡ length old.names = search rules in
     let counted : c.count-count.result ≡ length before.cells = search rules in
@@ -66,11 +66,11 @@ returns-clause-control c =
 
 pub returns-clause-cells : goal.returns-clause-cells
 returns-clause-cells c =
-    let code = c.args.code.now in
+    let code = c.args.node.code.now in
     let old = c.args.self.now in
     let before = c.args.cells.now in
-    let construct = tree_at code.trees c.args.node in
-    let slots = c.task_copies.result.now in
+    let construct = tree_at code.trees c.args.node.number in
+    let slots = c.task_copies-slots.result.now in
     let base : old.base ≤ length old.names = search rules in
     let were : c.len-names.result ≡ length old.names = search rules in
     let counted : c.count-count.result ≡ length before.cells = search rules in

@@ -17,16 +17,16 @@ returns-in_default-clause-task c =
 -- src/control/member.rt:30:5
 pub returns-clause-task : goal.returns-clause-task
 returns-clause-task c =
-    member_stands c.args.code.now _ c.args.self.now c.args.into.now c.begin_member.new.self c.in-Some.node c.own_names.result refl
+    member_stands c.args.code.now _ c.args.self.now c.args.into.now c.begin_member.new.self c.in-Some.number c.own_names.result refl
     (ap (λ (item : Option Item). forked_of item) c.front.ensures.first ∙ c.in-Some.ensures.construct c.args.code.now)
     c.own_names.ensures
-    (subst (λ (old : ControlView). IsPutBefore c.args.code.now (member_items (tree_at c.args.code.now.trees c.in-Some.node) (with_file c.args.code.now c.own_names.result)) old c.begin_member.new.self) (c.inherit.ensures ∙ ap (λ entries. beginning entries c.args.into.now) c.own_entries.ensures.names) c.begin_member.ensures)
+    (subst (λ (old : ControlView). IsPutBefore c.args.code.now (member_items (tree_at c.args.code.now.trees c.in-Some.number) (with_file c.args.code.now c.own_names.result)) old c.begin_member.new.self) (c.inherit.ensures ∙ ap (λ entries. beginning entries c.args.into.now) c.own_entries.ensures.names) c.begin_member.ensures)
 
 -- src/control/member.rt:30:5
 pub returns-clause-made : goal.returns-clause-made
 returns-clause-made c =
-    member_made c.args.code.now _ c.args.self.now c.args.into.now c.begin_member.new.self c.in-Some.node c.own_names.result refl
+    member_made c.args.code.now _ c.args.self.now c.args.into.now c.begin_member.new.self c.in-Some.number c.own_names.result refl
     (ap (λ (item : Option Item). forked_of item) c.front.ensures.first ∙ c.in-Some.ensures.construct c.args.code.now)
     c.own_names.ensures
-    (subst (λ (old : ControlView). IsPutBefore c.args.code.now (member_items (tree_at c.args.code.now.trees c.in-Some.node) (with_file c.args.code.now c.own_names.result)) old c.begin_member.new.self) (c.inherit.ensures ∙ ap (λ entries. beginning entries c.args.into.now) c.own_entries.ensures.names) c.begin_member.ensures)
+    (subst (λ (old : ControlView). IsPutBefore c.args.code.now (member_items (tree_at c.args.code.now.trees c.in-Some.number) (with_file c.args.code.now c.own_names.result)) old c.begin_member.new.self) (c.inherit.ensures ∙ ap (λ entries. beginning entries c.args.into.now) c.own_entries.ensures.names) c.begin_member.ensures)
     c.requires.made c.requires.into

@@ -15,7 +15,7 @@ returns-then-not-has_room c =
     let few : nat_lt CELL_LIMIT (length c.args.cells.now.cells + length (parameters_of (part_at trees c.function-function.result))) ≡ not c.has_room.result = search rules in
     record {
       step =
-          begins_cells c.args.code.now c.args.view c.args.self.now c.args.cells.now (part_at trees c.args.call) (part_at trees c.function-function.result) (env_with c.args.declared (env_at c.args.code.now c.args.self.now)) c.args.to
+          begins_cells c.args.code.now c.args.view c.args.self.now c.args.cells.now (part_at trees c.args.call.part) (part_at trees c.function-function.result) (env_with c.args.call.declared (env_at c.args.code.now c.args.self.now)) c.args.call.to
           c.has_room.result few (search rules) (search rules) (search rules);
       settled = search rules;
       numbers = tt;
@@ -29,7 +29,7 @@ returns-then-self-ge-CALL_LIMIT c =
     let many : CALL_LIMIT ≤ open_calls c.args.self.now.frames = search rules in
     record {
       step =
-          begins_calls c.args.code.now c.args.view c.args.self.now c.args.cells.now (part_at trees c.args.call) (part_at trees c.function-function.result) (env_with c.args.declared (env_at c.args.code.now c.args.self.now)) c.args.to
+          begins_calls c.args.code.now c.args.view c.args.self.now c.args.cells.now (part_at trees c.args.call.part) (part_at trees c.function-function.result) (env_with c.args.call.declared (env_at c.args.code.now c.args.self.now)) c.args.call.to
           c.has_room.result few (search rules) many (search rules) (search rules);
       settled = search rules;
       numbers = tt;
@@ -38,7 +38,7 @@ returns-then-self-ge-CALL_LIMIT c =
 
 pub enter-requires-clause-values : goal.enter-requires-clause-values
 enter-requires-clause-values c =
-    have_no_trap (scope_in c.args.code.now c.args.view c.args.self.now c.args.cells.now) (part_at c.args.code.now.trees c.args.call) (search rules)
+    have_no_trap (scope_in c.args.code.now c.args.view c.args.self.now c.args.cells.now) (part_at c.args.code.now.trees c.args.call.part) (search rules)
 
 pub returns-else-self-ge-CALL_LIMIT : goal.returns-else-self-ge-CALL_LIMIT
 returns-else-self-ge-CALL_LIMIT c =
@@ -48,7 +48,7 @@ returns-else-self-ge-CALL_LIMIT c =
     record {
       step =
           ap StepsTo c.enter.ensures.step
-          ∙ begins_entered c.args.code.now c.args.view c.args.self.now c.args.cells.now (part_at trees c.args.call) (part_at trees c.function-function.result) (env_with c.args.declared (env_at c.args.code.now c.args.self.now)) c.args.to
+          ∙ begins_entered c.args.code.now c.args.view c.args.self.now c.args.cells.now (part_at trees c.args.call.part) (part_at trees c.function-function.result) (env_with c.args.call.declared (env_at c.args.code.now c.args.self.now)) c.args.call.to
           c.has_room.result few (search rules) within (search rules) (search rules);
       settled = search rules;
       numbers = tt;

@@ -14,26 +14,26 @@ use Rattle.c_steps.proofs.control.Control.task.Goals as goal
 pub make_task_cells-requires-clause-room : goal.make_task_cells-requires-clause-room
 make_task_cells-requires-clause-room c =
     let begins : c.inherit.new.self ≡ beginning (drop c.args.self.now.base c.args.self.now.names) c.args.into.now = c.inherit.ensures ∙ ap (λ entries. beginning entries c.args.into.now) c.own_entries.ensures.names in
-    subst (λ (held : ControlView). length (made_task c.args.code.now (bound_in c.args.code.now held c.args.cells.now) c.args.cells.now.cells (tree_at c.args.code.now.trees c.in-Some.node)).cells ≤ CELL_LIMIT) (sym begins) (cells_fit c.args.code.now _ c.args.self.now c.args.into.now c.in-Some.node refl (ap (λ (item : Option Item). created_of item) c.front.ensures.first ∙ c.in-Some.ensures.construct c.args.code.now) c.args.cells.now c.requires.room)
+    subst (λ (held : ControlView). length (made_task c.args.code.now (bound_in c.args.code.now held c.args.cells.now) c.args.cells.now.cells (tree_at c.args.code.now.trees c.in-Some.number)).cells ≤ CELL_LIMIT) (sym begins) (cells_fit c.args.code.now _ c.args.self.now c.args.into.now c.in-Some.number refl (ap (λ (item : Option Item). created_of item) c.front.ensures.first ∙ c.in-Some.ensures.construct c.args.code.now) c.args.cells.now c.requires.room)
 
 pub make_task_cells-requires-clause-names : goal.make_task_cells-requires-clause-names
 make_task_cells-requires-clause-names c =
     let begins : c.inherit.new.self ≡ beginning (drop c.args.self.now.base c.args.self.now.names) c.args.into.now = c.inherit.ensures ∙ ap (λ entries. beginning entries c.args.into.now) c.own_entries.ensures.names in
-    omega (arith, ap (λ (held : ControlView). held.names_now) begins, names_fit c.args.code.now _ c.args.self.now c.args.into.now c.in-Some.node refl (ap (λ (item : Option Item). created_of item) c.front.ensures.first ∙ c.in-Some.ensures.construct c.args.code.now) c.requires.made c.requires.into)
+    omega (arith, ap (λ (held : ControlView). held.names_now) begins, names_fit c.args.code.now _ c.args.self.now c.args.into.now c.in-Some.number refl (ap (λ (item : Option Item). created_of item) c.front.ensures.first ∙ c.in-Some.ensures.construct c.args.code.now) c.requires.made c.requires.into)
 
 pub returns-clause-went : goal.returns-clause-went
 returns-clause-went c =
     let begins : c.inherit.new.self ≡ beginning (drop c.args.self.now.base c.args.self.now.names) c.args.into.now = c.inherit.ensures ∙ ap (λ entries. beginning entries c.args.into.now) c.own_entries.ensures.names in
-    let control = c.then.ensures ∙ ap (λ (held : ControlView). then_item (item.Start c.statement-part.result) held) (c.make_task_cells.ensures.control ∙ ap (λ (held : ControlView). with_made (made_task c.args.code.now (bound_in c.args.code.now held c.args.cells.now) c.args.cells.now.cells (tree_at c.args.code.now.trees c.in-Some.node)) held) begins) in
-    let cells = c.make_task_cells.ensures.cells ∙ ap (λ (held : ControlView). with_made_cells (made_task c.args.code.now (bound_in c.args.code.now held c.args.cells.now) c.args.cells.now.cells (tree_at c.args.code.now.trees c.in-Some.node)) c.args.cells.now) begins in
-    task_stands c.args.code.now _ c.args.self.now c.args.into.now c.in-Some.node refl (ap (λ (item : Option Item). created_of item) c.front.ensures.first ∙ c.in-Some.ensures.construct c.args.code.now) c.args.cells.now c.statement-part.result c.statement-part.ensures.statement c.then.new.self c.make_task_cells.new.cells control cells
+    let control = c.then.ensures ∙ ap (λ (held : ControlView). then_item (item.Start c.statement-part.result) held) (c.make_task_cells.ensures.control ∙ ap (λ (held : ControlView). with_made (made_task c.args.code.now (bound_in c.args.code.now held c.args.cells.now) c.args.cells.now.cells (tree_at c.args.code.now.trees c.in-Some.number)) held) begins) in
+    let cells = c.make_task_cells.ensures.cells ∙ ap (λ (held : ControlView). with_made_cells (made_task c.args.code.now (bound_in c.args.code.now held c.args.cells.now) c.args.cells.now.cells (tree_at c.args.code.now.trees c.in-Some.number)) c.args.cells.now) begins in
+    task_stands c.args.code.now _ c.args.self.now c.args.into.now c.in-Some.number refl (ap (λ (item : Option Item). created_of item) c.front.ensures.first ∙ c.in-Some.ensures.construct c.args.code.now) c.args.cells.now c.statement-part.result c.statement-part.ensures.statement c.then.new.self c.make_task_cells.new.cells control cells
 
 pub returns-clause-made : goal.returns-clause-made
 returns-clause-made c =
     let begins : c.inherit.new.self ≡ beginning (drop c.args.self.now.base c.args.self.now.names) c.args.into.now = c.inherit.ensures ∙ ap (λ entries. beginning entries c.args.into.now) c.own_entries.ensures.names in
-    let control = c.then.ensures ∙ ap (λ (held : ControlView). then_item (item.Start c.statement-part.result) held) (c.make_task_cells.ensures.control ∙ ap (λ (held : ControlView). with_made (made_task c.args.code.now (bound_in c.args.code.now held c.args.cells.now) c.args.cells.now.cells (tree_at c.args.code.now.trees c.in-Some.node)) held) begins) in
-    let cells = c.make_task_cells.ensures.cells ∙ ap (λ (held : ControlView). with_made_cells (made_task c.args.code.now (bound_in c.args.code.now held c.args.cells.now) c.args.cells.now.cells (tree_at c.args.code.now.trees c.in-Some.node)) c.args.cells.now) begins in
-    task_made c.args.code.now _ c.args.self.now c.args.into.now c.in-Some.node refl (ap (λ (item : Option Item). created_of item) c.front.ensures.first ∙ c.in-Some.ensures.construct c.args.code.now) c.args.cells.now c.statement-part.result c.statement-part.ensures.statement c.then.new.self c.make_task_cells.new.cells control cells c.statement-part.ensures.there c.requires.made c.requires.into
+    let control = c.then.ensures ∙ ap (λ (held : ControlView). then_item (item.Start c.statement-part.result) held) (c.make_task_cells.ensures.control ∙ ap (λ (held : ControlView). with_made (made_task c.args.code.now (bound_in c.args.code.now held c.args.cells.now) c.args.cells.now.cells (tree_at c.args.code.now.trees c.in-Some.number)) held) begins) in
+    let cells = c.make_task_cells.ensures.cells ∙ ap (λ (held : ControlView). with_made_cells (made_task c.args.code.now (bound_in c.args.code.now held c.args.cells.now) c.args.cells.now.cells (tree_at c.args.code.now.trees c.in-Some.number)) c.args.cells.now) begins in
+    task_made c.args.code.now _ c.args.self.now c.args.into.now c.in-Some.number refl (ap (λ (item : Option Item). created_of item) c.front.ensures.first ∙ c.in-Some.ensures.construct c.args.code.now) c.args.cells.now c.statement-part.result c.statement-part.ensures.statement c.then.new.self c.make_task_cells.new.cells control cells c.statement-part.ensures.there c.requires.made c.requires.into
 
 pub returns-in_default-clause-went : goal.returns-in_default-clause-went
 returns-in_default-clause-went c =

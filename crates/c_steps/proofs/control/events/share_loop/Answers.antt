@@ -16,5 +16,5 @@ returns c =
     record {
       step = search rules;
       unchanged = search rules;
-      numbers = (c.requires.node, subst AreWorkNumbers (sym work) (subst (λ count. AreLoopNumbers c.args.start count parts.step) (sym count) numbers));
+      numbers = (c.args.node.there, subst AreWorkNumbers (sym work) (subst (λ count. AreLoopNumbers c.args.start count parts.step) (sym count) numbers));
     }

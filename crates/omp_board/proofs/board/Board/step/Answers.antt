@@ -4,7 +4,8 @@ use Rattle.c_steps.specs.declared.next.Next.TheVariants as next
 use Rattle.omp_model.specs.Members.{code_of, moment_of, view_of}
 use Rattle.omp_model.specs.Silent.{Goes}
 use Rattle.omp_board.specs.Board.{BoardView}
-use Rattle.omp_board.proofs.Silence.{is_other, no_event, past_settled, silent_by, turn_replied, view_replied, world_replied}
+use Rattle.omp_board.proofs.Silence.{is_other, no_event, silent_by, turn_replied, view_replied, world_replied}
+use Rattle.omp_board.proofs.ToldFree.{past_settled}
 use Rattle.omp_board.proofs.board.Board.step.Goals as goal
 
 pub answer-requires-clause-settled : goal.answer-requires-clause-settled

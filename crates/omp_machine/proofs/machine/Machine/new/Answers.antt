@@ -9,7 +9,7 @@ use Rattle.omp_machine.proofs.machine.Machine.new.Goals as goal
 
 pub invariant_of-result : goal.invariant_of-result
 invariant_of-result c =
-    let settings : Settings = record { mask = c.args.mask; threads = c.args.threads; steps = c.args.steps } in
+    let settings : Settings = record { mask = c.args.mask; limits = c.args.limits } in
     let run : Run = run_in c.args.program settings in
     subst (λ (tree : TreeView). IsSound (run_in tree settings) c.in_ok-state.state.state) (sym c.in_ok-state.ensures.program)
-    (subst (λ (state : State). IsSound run state) (sym c.in_ok-state.ensures.first) (sound-first run c.requires.some))
+    (subst (λ (state : State). IsSound run state) (sym c.in_ok-state.ensures.first) (sound-first run c.args.limits.some_threads))

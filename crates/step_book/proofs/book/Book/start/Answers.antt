@@ -2,4 +2,4 @@ use Rattle.step_book.proofs.Visiting.{book-first}
 use Rattle.step_book.proofs.book.Book.start.Goals as goal
 
 pub invariant_of-result : goal.invariant_of-result
-invariant_of-result c = rw c.in_ok-machine.ensures (book-first _ c.new-2.result c.requires.some c.new-2.ensures)
+invariant_of-result c = rw c.in_ok-machine.ensures (book-first _ c.new-2.result c.args.limits.some_threads c.new-2.ensures)

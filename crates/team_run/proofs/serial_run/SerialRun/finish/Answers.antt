@@ -1,11 +1,8 @@
 use Rattle.std.proofs.Common.{ℕ, ◌≡◌, ◌<◌, ◌∙◌, IfSome, None, Option, ap, sym, subst, arith}
 use Rattle.std.specs.Option.{option_map}
-use Rattle.team_run.specs.Names.{TURN_LIMIT, arrival, Run, state_of}
 use Rattle.omp_machine.specs.declared.ready.Ready.{Ready}
 use Rattle.omp_model.proofs.{Turns.turn-goes, Recording.first_enabled-enabled}
-use Rattle.team_run.specs.{Standing.StandsAt, Standing.StopsAt, Serving.Serves}
-use Rattle.team_run.proofs.Serving.{serves-then, same-then}
-use Rattle.team_run.proofs.Visiting.{caused, stops-here, serves-to, serves-all}
+use Rattle.team_run.{specs.Names.TURN_LIMIT, specs.Names.arrival, specs.Names.state_of, specs.Serving.Serves, proofs.Serving.serves-then, proofs.Serving.same-then, proofs.Visiting.caused, proofs.Visiting.stops-here, proofs.Visiting.serves-to, proofs.Visiting.serves-all}
 use Rattle.team_run.proofs.serial_run.SerialRun.finish.Goals as goal
 
 -- the thread that was found
@@ -21,31 +18,23 @@ loop-ready-smaller g c =
 pub loop-ready-preserved : goal.loop-ready-preserved
 loop-ready-preserved g c =
     let stands_for = g.P.ToolPart.stands_for in
-    let before = c.loop-ready.self in
-    let after = c.visit.new.self in
     let kept = c.loop-ready.invariant in
-    let served : Serves stands_for before.book.run before.parts.items before.book.history None after.parts.items after.book.history =
-    serves-all _ _ _ _ (subst (λ (run : Run). StandsAt run after.next after.book.history) c.in-Ok.ensures.run c.in-Ok.ensures.stands) stands_for _ _ c.in-Ok.ensures.serves in
-    let of_run = subst (λ (run : Run). Serves stands_for run before.parts.items before.book.history None after.parts.items after.book.history) kept.run served in
+    let first : Serves stands_for c.visit.new.self.book.run c.args.self.now.parts.items c.args.self.now.book.history None c.loop-ready.self.parts.items c.loop-ready.self.book.history = rw c.in-Ok.ensures.run kept.serves in
     record {
       run = c.in-Ok.ensures.run ∙ kept.run;
       stands = c.in-Ok.ensures.stands;
-      serves = serves-then stands_for c.args.self.now.book.run _ _ _ _ _ _ None kept.serves of_run;
+      serves = serves-then stands_for c.visit.new.self.book.run _ _ _ _ _ _ None first (serves-all _ _ _ _ c.in-Ok.ensures.stands stands_for _ _ c.in-Ok.ensures.serves);
       same = same-then g.P.ToolPart.same (g.met.P.ToolPart g.world.𝓛 g.world.𝓜 g.world.𝓡 ((λ s x. x), (λ x. x), (λ x. x), λ x. x)).same_onward _ _ _ kept.serves.as_many kept.same c.in-Ok.ensures.same;
     }
 
 pub returns-clause-serves : goal.returns-clause-serves
-returns-clause-serves g c =
-    let kept = c.loop-ready.invariant in
-    serves-to _ _ _ _ (subst (λ (run : Run). StandsAt run c.loop-ready.self.next c.loop-ready.self.book.history) kept.run kept.stands) g.P.ToolPart.stands_for _ _ kept.serves
+returns-clause-serves g c = serves-to _ _ _ _ c.loop-ready.invariant.stands g.P.ToolPart.stands_for _ _ c.loop-ready.invariant.serves
 
 pub unreachable-requires : goal.unreachable-requires
-unreachable-requires g c =
-    caused _ _ _ c.loop-ready.invariant.stands (sym c.first_ready.ensures.thread ∙ ap thread_of c.in_default.is) (sym c.cause.ensures ∙ c.in-None.is)
+unreachable-requires g c = caused _ _ _ c.loop-ready.invariant.stands (sym c.first_ready.ensures.thread ∙ ap thread_of c.in_default.is) (sym c.cause.ensures ∙ c.in-None.is)
 
 pub returns-clause-stops : goal.returns-clause-stops
-returns-clause-stops g c =
-    subst (λ (run : Run). StopsAt run c.loop-ready.self.book.history) c.loop-ready.invariant.run (stops-here _ _ _ c.loop-ready.invariant.stands)
+returns-clause-stops g c = stops-here _ _ _ c.loop-ready.invariant.stands
 
 pub visit-requires-clause-turn : goal.visit-requires-clause-turn
 visit-requires-clause-turn g c κs within = sym c.first_ready.ensures.thread ∙ ap thread_of c.in-Some.is

@@ -1,15 +1,14 @@
 use Rattle.std.proofs.Common.{refl}
 use Rattle.std.proofs.lemmas.List.{length-set}
 use Rattle.ompt_calls.specs.Item.{item_of}
-use Rattle.team_run.proofs.Replying.{same-at, told-at}
+use Rattle.team_run.proofs.Serving.{same-at, told-at}
 use Rattle.team_run.proofs.serial_run.SerialRun.serve.Goals as goal
 
 pub returns-clause-answers : goal.returns-clause-answers
 returns-clause-answers g c =
     let parts = c.args.self.now.parts.items in
     let t = c.args.thread in
-    let reply = c.in_ok-reply.reply in
-    record {
+    let reply = c.in_ok-reply.reply in record {
       reply = reply;
       history_is = rw (c.reuse.ensures, c.answer.ensures) refl;
       as_many = length-set parts t c.callback.new.self;
