@@ -71,7 +71,7 @@ impl Head {
     }
 }
 
-// The functions from here on are a table: one for each kind of head, a row a word.
+// The functions from here on are a table: one for each kind of head, mostly a row a word.
 fn behind_outside(word: Term) -> Head
     ensures behind { result ≡ behind_outside word }
     ensures flat { parentheses_of result ≡ 0 }

@@ -11,7 +11,7 @@ within first last number = nat_le first number && nat_le number last
 abbrev pub in_profile : ℕ → Bool
 in_profile number = within 1 7 number || within 16 17 number || within 20 21 number || within 23 27 number || within 32 32 number
 
--- those of devices and of control by the tool, which have no event in a program that runs here
+-- those of devices and of control of the tool, which have no event in a program that runs here
 abbrev pub is_of_devices : ℕ → Bool
 is_of_devices number = within 8 15 number || within 22 22 number || within 33 36 number
 

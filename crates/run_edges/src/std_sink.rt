@@ -1,4 +1,4 @@
-//! std's writers as sinks. That an error of the writer is a failure, and a write that takes nothing, is to be read.
+//! std's writers as sinks. An error of the writer is a failure, and so is a write that takes nothing: no clause says so, the match does.
 ghost use Rattle.std.specs.Prelude.{◌≡◌, ◌≢◌, ◌<◌, ◌≤◌, length, None};
 ghost use Rattle.run_edges.specs.Edges.{raised, Rose, Takes};
 

@@ -1,4 +1,4 @@
-//! The rules on events, over what is kept. It is a table: one function a rule.
+//! The rules on events, over what is kept. It is a table: most rules are a function of their own.
 
 ghost use Rattle.std.specs.Prelude.{◌≡◌, ◌+◌, ◌==◌, List, length, nat_le};
 ghost use Rattle.ompt_calls.specs.declared.event.EventRecord.{EventRecord};

@@ -1,4 +1,4 @@
-//! Numbers of OMPT that are written by their names. Each function is a table, a row a number with its name.
+//! Numbers of OMPT that are written by their names. Most functions are a table, a row a number with its name.
 
 ghost use Rattle.std.specs.Prelude.{◌≡◌, Some};
 ghost use Rattle.std.specs.Option.{option_copied};
