@@ -1,5 +1,5 @@
 -- What a report says of its run.
-use Rattle.std.specs.Prelude.{ℕ, ◌≡◌, ◌≢◌, List, Option, Some}
+use Rattle.std.specs.Prelude.{ℕ, ◌≡◌, ◌≢◌, List, Option, Some, IsSomeAnd}
 use Rattle.std.specs.declared.{alloc.Global.Global, dyn_box.DynBox.DynBox}
 use Rattle.omp_model.specs.declared.cause.Cause.TheVariants as cause
 use Rattle.ompt_words.specs.declared.settings.RunOutput.TheVariants as output
@@ -8,6 +8,11 @@ use Rattle.ompt_cli.specs.Names.{PROFILE_MASK, AreAlways, after, records_of, Eve
 use Rattle.ompt_cli.specs.Commands.{CountsFaults, EndsAs, HasGuests, HasWritten, program_in, run_of, run_text, settings_in, text_in}
 use Rattle.ompt_cli.specs.{declared.end.End.End, declared.end.End.TheVariants.Memory, declared.end.End.TheVariants.WriteFault, declared.job.Job.Job, declared.observing.Observed.Observed}
 use Rattle.ompt_cli.specs.{declared.report.Report.Report, Guests.GuestsAfter, Histories.file_of_report, Runs.AreOutside}
+
+-- a command that ended so has written what a program printed, and may write more behind it: one that ran guests and was asked for no history.
+-- Memory and the writes didn't fail
+abbrev pub HasPrinted : {Table : Type 0} {Behind : Table → Type 0} → End → Option (Report Table Behind) → Type 0
+HasPrinted end ran = IsSomeAnd ran (λ report. HasGuests report.command × (report.command ≢ Running output.History)) × (end ≢ Memory) × (end ≢ WriteFault)
 
 -- the report is of a run of this job
 pub record Observes {Table : Type 0} {Behind : Table → Type 0} (job : Job) (report : Report Table Behind) : Type 0 where

@@ -1,6 +1,7 @@
 //! How a command ended, and what it reports of its run.
 
-ghost use Rattle.std.specs.Prelude.{◌≡◌, None};
+ghost use Rattle.std.specs.Prelude.{◌≡◌, ◌↔◌, None, IsTrue};
+ghost use Rattle.ompt_cli.specs.Reports.{HasPrinted};
 ghost use Rattle.ompt_cli.specs.Text.{IsOf};
 
 use crate::end::End;
@@ -87,14 +88,16 @@ pub struct Top {
 
 impl Top {
     /// Whether the command has printed what a program printed, so that more may stand behind it.
-    pub fn has_printed(&self) -> bool {
-        match &self.ran {
-            Some(report) => match report.command {
-                Command::Run(RunOutput::History) => false,
-                Command::Run(_) => self.end != End::Memory && self.end != End::WriteFault,
-                _ => false,
-            },
-            None => false,
+    pub fn has_printed(&self) -> bool
+        ensures { IsTrue result ↔ HasPrinted self.now.end self.now.ran }
+    {
+        let Some(report) = &self.ran else {
+            return false;
+        };
+        match report.command {
+            Command::Run(RunOutput::History) => false,
+            Command::Run(_) => self.end != End::Memory && self.end != End::WriteFault,
+            _ => false,
         }
     }
 }

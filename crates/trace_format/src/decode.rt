@@ -44,28 +44,6 @@ pub fn long_at(bytes: &[u8], place: usize) -> u64
     BigEndian::read_u64(&bytes[place..])
 }
 
-/// The data word that begins at this place.
-fn word_at(bytes: &[u8], place: usize) -> Word
-    requires { place + 12 ≤ length bytes.now }
-    ensures { result ≡ word_at place bytes.now }
-{
-    Word {
-        identity: short_at(bytes, place),
-        value: long_at(bytes, place + 4),
-    }
-}
-
-/// The frame that begins at this place.
-fn frame_at(bytes: &[u8], place: usize) -> Frame
-    requires { place + 8 ≤ length bytes.now }
-    ensures { result ≡ frame_at place bytes.now }
-{
-    Frame {
-        exit: short_at(bytes, place),
-        enter: short_at(bytes, place + 4),
-    }
-}
-
 /// The number of 32 bits at this place, and the place behind it.
 fn next_short(bytes: &[u8], place: &mut usize) -> u32
     requires { place.old + 4 ≤ length bytes.now }
@@ -94,9 +72,10 @@ fn next_word(bytes: &[u8], place: &mut usize) -> Word
     ensures value { result ≡ word_at place.old bytes.now }
     ensures place { place.new ≡ place.old + 12 }
 {
-    let at = *place;
-    *place += 12;
-    word_at(bytes, at)
+    Word {
+        identity: next_short(bytes, place),
+        value: next_long(bytes, place),
+    }
 }
 
 /// The frame at this place, and the place behind it.
@@ -105,9 +84,10 @@ fn next_frame(bytes: &[u8], place: &mut usize) -> Frame
     ensures value { result ≡ frame_at place.old bytes.now }
     ensures place { place.new ≡ place.old + 8 }
 {
-    let at = *place;
-    *place += 8;
-    frame_at(bytes, at)
+    Frame {
+        exit: next_short(bytes, place),
+        enter: next_short(bytes, place),
+    }
 }
 
 /// The argument at this place.
