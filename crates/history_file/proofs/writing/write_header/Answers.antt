@@ -19,8 +19,8 @@ returns-clause-whole g c =
     on_ok_weaker c.write_all.result
     (λ all.
     subst (λ (bytes : List ℕ). Appends (g.O.Sink.held c.args.sink.now) (g.O.Sink.held c.write_all.new.sink) bytes)
-    (ap (λ (head : List ℕ). head ++ c.bytes.result.now) c.put_head.ensures.bytes ∙ ap (λ (text : List ℕ). spelling (head_fields c.args.file.now) ++ text) c.bytes.ensures ∙ sym (header_is c.args.file.now))
-    (Appends-trans _ _ _ c.put_head.new.page c.bytes.result.now c.in_ok-write_page.ensures.whole all))
+    (ap (λ (head : List ℕ). head ++ c.as_slice.result.now) c.put_head.ensures.bytes ∙ ap (λ (text : List ℕ). spelling (head_fields c.args.file.now) ++ text) c.as_slice.ensures ∙ sym (header_is c.args.file.now))
+    (Appends-trans _ _ _ c.put_head.new.page c.as_slice.result.now c.in_ok-write_page.ensures.whole all))
     c.write_all.ensures.whole
 
 pub returns-clause-part : goal.returns-clause-part
@@ -28,6 +28,6 @@ returns-clause-part g c =
     on_err_weaker c.write_all.result
     (λ part.
     subst (λ (bytes : List ℕ). AppendsFront (g.O.Sink.held c.args.sink.now) (g.O.Sink.held c.write_all.new.sink) bytes)
-    (ap (λ (head : List ℕ). head ++ c.bytes.result.now) c.put_head.ensures.bytes ∙ ap (λ (text : List ℕ). spelling (head_fields c.args.file.now) ++ text) c.bytes.ensures ∙ sym (header_is c.args.file.now))
-    (part_behind _ _ _ c.put_head.new.page c.bytes.result.now c.in_ok-write_page.ensures.whole part))
+    (ap (λ (head : List ℕ). head ++ c.as_slice.result.now) c.put_head.ensures.bytes ∙ ap (λ (text : List ℕ). spelling (head_fields c.args.file.now) ++ text) c.as_slice.ensures ∙ sym (header_is c.args.file.now))
+    (part_behind _ _ _ c.put_head.new.page c.as_slice.result.now c.in_ok-write_page.ensures.whole part))
     c.write_all.ensures.part

@@ -13,25 +13,25 @@ returns-in_err-write_header-clause-part g c = on_err c.from_residual.result (par
 pub returns-in_err-write_entries-clause-part : goal.returns-in_err-write_entries-clause-part
 returns-in_err-write_entries-clause-part g c =
     let part = subst
-    (λ (page : List ℕ). AppendsFront (g.O.Sink.held c.write_header.new.sink) (g.O.Sink.held c.write_entries.new.sink) (page ++ spelling (flat_map entry_fields c.entries.result.now)))
+    (λ (page : List ℕ). AppendsFront (g.O.Sink.held c.write_header.new.sink) (g.O.Sink.held c.write_entries.new.sink) (page ++ spelling (flat_map entry_fields c.as_slice.result.now)))
     c.in_ok-write_header.ensures.empty c.in_err-write_entries.ensures.part in
     on_err c.from_residual-in_err-write_entries.result
-    (part_entries _ _ _ c.args.file.now c.entries.result.now c.entries.ensures c.in_ok-write_header.ensures.whole part)
+    (part_entries _ _ _ c.args.file.now c.as_slice.result.now c.as_slice.ensures c.in_ok-write_header.ensures.whole part)
 
 pub returns-clause-whole : goal.returns-clause-whole
 returns-clause-whole g c =
     let paged = subst
-    (λ (page : List ℕ). IsPaged (g.O.Sink.held c.write_header.new.sink) (g.O.Sink.held c.write_entries.new.sink) c.write_entries.new.page (page ++ spelling (flat_map entry_fields c.entries.result.now)))
+    (λ (page : List ℕ). IsPaged (g.O.Sink.held c.write_header.new.sink) (g.O.Sink.held c.write_entries.new.sink) c.write_entries.new.page (page ++ spelling (flat_map entry_fields c.as_slice.result.now)))
     c.in_ok-write_header.ensures.empty c.in_ok-write_entries.ensures.paged in
     on_ok_weaker c.write_end.result
-    (whole_end _ _ _ _ c.args.file.now c.entries.result.now _ c.entries.ensures c.in_ok-write_header.ensures.whole paged)
+    (whole_end _ _ _ _ c.args.file.now c.as_slice.result.now _ c.as_slice.ensures c.in_ok-write_header.ensures.whole paged)
     c.write_end.ensures.whole
 
 pub returns-clause-part : goal.returns-clause-part
 returns-clause-part g c =
     let paged = subst
-    (λ (page : List ℕ). IsPaged (g.O.Sink.held c.write_header.new.sink) (g.O.Sink.held c.write_entries.new.sink) c.write_entries.new.page (page ++ spelling (flat_map entry_fields c.entries.result.now)))
+    (λ (page : List ℕ). IsPaged (g.O.Sink.held c.write_header.new.sink) (g.O.Sink.held c.write_entries.new.sink) c.write_entries.new.page (page ++ spelling (flat_map entry_fields c.as_slice.result.now)))
     c.in_ok-write_header.ensures.empty c.in_ok-write_entries.ensures.paged in
     on_err_weaker c.write_end.result
-    (part_end _ _ _ _ c.args.file.now c.entries.result.now _ c.entries.ensures c.in_ok-write_header.ensures.whole paged)
+    (part_end _ _ _ _ c.args.file.now c.as_slice.result.now _ c.as_slice.ensures c.in_ok-write_header.ensures.whole paged)
     c.write_end.ensures.part

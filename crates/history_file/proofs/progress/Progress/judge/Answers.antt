@@ -11,6 +11,6 @@ pub returns-else-branch : goal.returns-else-branch
 returns-else-branch c =
     let file = c.args.file.now in
     let after = c.take_all.new.self in
-    let stops = subst (Goes c.entries.result.now after) c.if-branch.false c.in_ok-take_all.ensures.goes in
-    let illegal = illegal_stopped file after (subst (λ (history : List Entry). Stops history after) c.entries.ensures stops) in
+    let stops = subst (Goes c.as_slice.result.now after) c.if-branch.false c.in_ok-take_all.ensures.goes in
+    let illegal = illegal_stopped file after (subst (λ (history : List Entry). Stops history after) c.as_slice.ensures stops) in
     subst (λ (run : Run). IsVerdict run file (verdict.Illegal after.seq)) c.in_ok-take_all.ensures.run illegal
