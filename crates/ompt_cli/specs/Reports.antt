@@ -9,8 +9,8 @@ use Rattle.ompt_cli.specs.Commands.{CountsFaults, EndsAs, HasGuests, HasWritten,
 use Rattle.ompt_cli.specs.{declared.end.End.End, declared.end.End.TheVariants.Memory, declared.end.End.TheVariants.WriteFault, declared.job.Job.Job, declared.observing.Observed.Observed}
 use Rattle.ompt_cli.specs.{declared.report.Report.Report, Guests.GuestsAfter, Histories.file_of_report, Runs.AreOutside}
 
--- a command that ended so has written what a program printed, and may write more behind it: one that ran guests and was asked for no history.
--- Memory and the writes didn't fail
+-- a command that ended so has written what a program printed, and more may be written behind it: it ran guests and was asked for no history,
+-- and neither memory nor a write failed
 abbrev pub HasPrinted : {Table : Type 0} {Behind : Table → Type 0} → End → Option (Report Table Behind) → Type 0
 HasPrinted end ran = IsSomeAnd ran (λ report. HasGuests report.command × (report.command ≢ Running output.History)) × (end ≢ Memory) × (end ≢ WriteFault)
 

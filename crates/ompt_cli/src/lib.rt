@@ -28,7 +28,8 @@
 //! [`top_alone`] does the same for all words that don't ask for a run by threads, without the handles for threads and for waiting. By
 //! [`each_text_is_judged`], a law, each text runs or is refused, for one reason.
 //!
-//! [`own_words`] gathers the words for a program's `main`. No clause says which they are, since none can.
+//! [`own_words`] gathers the words for a program's `main`. No clause says which they are, since none can. [`Top::has_printed`] tells it
+//! whether more may stand behind what was printed, and [`End::exit`] ends a program with the line and the status of an end.
 //!
 //! Want of memory is free: no clause says when it comes, only what stands after it. That the calls succeed with ample
 //! memory isn't proved: the rows of `test_commands` show it.

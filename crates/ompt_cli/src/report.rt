@@ -87,7 +87,7 @@ pub struct Top {
 }
 
 impl Top {
-    /// Whether the command has printed what a program printed, so that more may stand behind it.
+    /// Whether the command is `run` without `--history`, and has written what the program printed, so that more may stand behind it.
     pub fn has_printed(&self) -> bool
         ensures { IsTrue result ↔ HasPrinted self.now.end self.now.ran }
     {

@@ -8,8 +8,8 @@
 //!
 //! The caller has the driver of thread 0, and each other one runs on a thread of its own. Where a start is refused the driver comes
 //! back as it was, and the caller visits it in turn with driver 0, one visit with its answer each. Passes and parts come back in
-//! the order of their threads. Part 0 is started before the book is made. It is finished when all drivers have come back, as in a
-//! serial run.
+//! the order of their threads. Part 0 is started before the book is made. It is finished when all drivers have come back, unless
+//! memory was wanting before the first entry: then an error is answered, as by a serial run.
 //!
 //! `driver` has the loop of a driver, and a visit alone. `team` starts the drivers and takes them back. `threads` puts them together.
 //! In `specs/` `Driving` says what a driver's part was called for, and `Drivers` what is so of all drivers at once. What the parts of a
@@ -28,8 +28,8 @@
 //! - that a run ends, that a thread that sleeps wakes, and in which cause a run ends;
 //! - that callbacks of different threads overlap, that threads were started, and that no lock is held while a part is called:
 //!   to be read in `src/`;
-//! - that a run finds memory. Of the parts nothing is said after an error. That an error comes only before the first entry
-//!   is to be read;
+//! - that a run finds memory. Of the parts nothing is said after an error. That they are gone then, that part 0 was
+//!   started but isn't finished, and that an error comes only before the first entry, is to be read;
 //! - that part 0 is started before the other parts are called and finished after the threads have come back: a record doesn't
 //!   say in which order the calls of different parts came.
 #![tactic(auto)]

@@ -23,8 +23,8 @@ use tool_api::ToolPart;
 /// thread t, on its thread, and no lock is held meanwhile.
 ///
 /// Part 0 is started before the first entry. What it registers is heard, where it answers another number than 0, and else nothing. Where it
-/// answers another number than 0 it is finished after the last entry, when all threads have come back. A thread that can't be started is
-/// driven by the caller.
+/// answers another number than 0 it is finished after the last entry, when all threads have come back. After an error it isn't
+/// finished. A thread that can't be started is driven by the caller.
 ///
 /// No clause says when memory is wanting, that the run ends, or that callbacks overlap. That an error comes only before the first entry is to be
 /// read.
