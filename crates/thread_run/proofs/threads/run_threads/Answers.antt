@@ -1,7 +1,17 @@
-use Rattle.std.proofs.Common.{◌≡◌, ◌≢◌, false, [], rules, sym, arith}
+use Rattle.std.proofs.Common.{◌≡◌, ◌≢◌, ◌∙◌, false, List, [], length, rules, sym, ap, arith}
 use Rattle.omp_model.specs.declared.cause.Cause.TheVariants as causes
 use Rattle.team_run.{specs.Program.run_of_program, proofs.Serving.changes-vector, proofs.Serving.is-ran}
 use Rattle.thread_run.proofs.threads.run_threads.Goals as goal
+
+pub finalize_first-requires-after_bounds : goal.finalize_first-requires-after_bounds
+finalize_first-requires-after_bounds g c κs within =
+    let cause = c.known_cause-cause in
+    let first = changes-vector g.P.ToolPart.stands_for g.P.ToolPart.same _ c.args.parts.items c.deref_mut.result.now
+    c.initialize_first-start.new.parts c.args.parts.len c.deref_mut.ensures.value (sym c.args.parts.ok.0) c.initialize_first-start.ensures.first in
+    let begun : cause.result ≡ causes.Memory → c.in_ok-closed.closed.history ≢ [] = search rules in
+    let many : length c.in_ok-closed.parts.items ≡ c.args.limits.threads =
+    (c.in_ok-closed.ensures cause.result cause.ensures begun).as_many ∙ first.as_many ∙ c.requires in
+    omega (arith, c.args.limits.some_threads, many, ap (λ (parts : List g.row.P.Denot). length parts) c.deref_mut-2.ensures.value)
 
 pub returns : goal.returns
 returns g c =
