@@ -1,4 +1,4 @@
-use Rattle.std.proofs.Common.{◌∙◌, inl, inr}
+use Rattle.std.proofs.Common.{◌∙◌}
 use Rattle.thread_run.proofs.Driving.{come-gone}
 use Rattle.thread_run.proofs.driver.visit.Goals as goal
 
@@ -11,8 +11,13 @@ returns-in-Ok-Told-clause-goes g c = record {
 pub returns-in-Ok-Quiet-clause-goes : goal.returns-in-Ok-Quiet-clause-goes
 returns-in-Ok-Quiet-clause-goes g c = record {
   thread = c.go.ensures.thread;
-  driven = λ whose driven.
-      let came = (come-gone g.P.ToolPart.stands_for g.P.ToolPart.same g.K.BookName.run whose c.args.pass.now c.go.new.pass c.args.part.now c.go.result c.legal.ensures.below c.go.ensures.over c.go.ensures.ok c.go.ensures.memory c.go.ensures.ended driven) in elim c.in-Ok-Quiet.is [ inl is ↦ rw is at came | inr is ↦ rw is at came ];
+  driven = λ whose driven. rw (c.in-Ok-Quiet.is, c.in-Ok-Quiet.field-0-is) at (come-gone g.P.ToolPart.stands_for g.P.ToolPart.same g.K.BookName.run whose c.args.pass.now c.go.new.pass c.args.part.now c.go.result c.legal.ensures.below c.go.ensures.over c.go.ensures.ok c.go.ensures.memory c.go.ensures.ended driven);
+}
+
+pub returns-in-Ok-NotYet-clause-goes : goal.returns-in-Ok-NotYet-clause-goes
+returns-in-Ok-NotYet-clause-goes g c = record {
+  thread = c.go.ensures.thread;
+  driven = λ whose driven. rw (c.in-Ok-NotYet.is, c.in-Ok-NotYet.field-0-is) at (come-gone g.P.ToolPart.stands_for g.P.ToolPart.same g.K.BookName.run whose c.args.pass.now c.go.new.pass c.args.part.now c.go.result c.legal.ensures.below c.go.ensures.over c.go.ensures.ok c.go.ensures.memory c.go.ensures.ended driven);
 }
 
 pub returns-in-Ok-Ended-clause-goes : goal.returns-in-Ok-Ended-clause-goes
