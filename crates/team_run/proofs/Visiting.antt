@@ -12,7 +12,7 @@ use Rattle.step_book.proofs.{Telling.HasUntold, Telling.IsAlone, Visiting.inside
 use Rattle.team_run.specs.Names.{Call, Snapshot, Item, Reply, Stored, stores_of, Entry, Callback, Cause, Event, Outcome, Run, State, first, pending_at, call_of, snap_of, turn, called, after, put_from, back_from, back, heard, first_enabled, inside_after, StoresNothing, go_at, event_reply, none_pending, cause_of, BookView, state_of, with_entries, turn_visit, Record}
 use Rattle.team_run.specs.Serving.{AreSame, Serves, ServesTo, OnlyUnheard, Answers}
 use Rattle.team_run.specs.Standing.{AreSilent, HearsOwn, HearsSilent, StandsAt, StopsAt}
-use Rattle.team_run.proofs.Serving.{serves-told, serves-unheard, served-nil, hears-front, item-silent, own-told, own-unheard, heard_of-same}
+use Rattle.team_run.proofs.Serving.{serves-told, serves-unheard, served-nil, told-silent, own-told, own-unheard, heard_of-same}
 use Rattle.team_run.specs.{Program.HaveServed, Unheard.IsUnheard, Unheard.is_of}
 
 abbrev pub all_none : List (Option Callback) → Bool
@@ -242,7 +242,7 @@ module _ (run : Run) (from : ℕ) (H : List Entry) (t : ℕ) (stands : StandsAt 
         subst (λ K. Visited stands_for run H t parts others K) (sym history)
         (visited-event stands_for parts others e said.happens stores (stores-few answers.reply (snap_of between.world t e)) (may-store run H t e stands.some said.happens answers.reply said.registered) waits
         (own-told run H whole t (item_with stores) refl under more stands.own)
-        (λ silent. (hears-front run H whole (item_with stores ∷ []) more silent, item-silent run H whole t (item_with stores) refl more under silent))
+        (told-silent run H whole t (item_with stores) refl more under)
         (serves-told stands_for run parts others H whole t (item_with stores) refl more answers.as_many answers.each))
 
     pub visited-said : (seq : ℕ) → seq ≡ length H → (longer : List Entry) → Answers stands_for seq t call snapshot parts (H ++ go_at t ∷ []) others longer → Visited stands_for run H t parts others longer
