@@ -57,10 +57,8 @@ waits-put_all run S t e made (store ∷ rest) inside = waits-put_all run (put S 
 
 -- a turn with no event leaves the callbacks alone
 pub same-pending : (S after : State) (t : ℕ) (o : Outcome) → Leaves S t after o → inside_after o t ≡ None → after.pending ≡ S.pending
-same-pending S after t Idle leaves none = leaves.2
-same-pending S after t Quiet leaves none = leaves.2
 same-pending S after t (Happens event) leaves none = cc
-same-pending S after t (Halts halt) leaves none = leaves.2
+same-pending S after t o leaves none = leaves.2
 
 -- before the first entry
 pub stands-start : (run : Run) → 1 ≤ run.threads → run.threads ≤ 16 → StandsAt run 0 []
@@ -79,20 +77,13 @@ pub stops-here : (run : Run) (from : ℕ) (H : List Entry) → StandsAt run from
 stops-here run from H stands = record { serial = HasRun-serial stands.has_run; own = stands.own }
 
 -- at most three stores of a reply take effect
-stored-few : (word : ℕ) (found : Option Target) → length (stored word found) ≤ 1
-stored-few word None = omega arith
-stored-few word (Some found) = omega arith
-
 stored_of-few : (snapshot : Snapshot) (store : Option Store) → length (stored_of snapshot store) ≤ 1
 stored_of-few snapshot None = omega arith
-stored_of-few snapshot (Some store) = stored-few store.word (target_of snapshot store.place)
+stored_of-few snapshot (Some store) =
+    elim (target_of snapshot store.place) as (λ found. length (stored store.word found) ≤ 1) [ None ↦ omega arith | Some found ↦ omega arith ]
 
-pub stores-few : (reply : Reply) (snapshot : Snapshot) → length (stores_of reply snapshot) ≤ 3
-stores-few reply snapshot =
-    let one = stored_of snapshot reply.first in
-    let two = stored_of snapshot reply.second in
-    let three = stored_of snapshot reply.third in
-    omega (arith, length-append (one ++ two) three, length-append one two, stored_of-few snapshot reply.first, stored_of-few snapshot reply.second, stored_of-few snapshot reply.third)
+stores-few : (reply : Reply) (snapshot : Snapshot) → length (stores_of reply snapshot) ≤ 3
+stores-few reply snapshot = omega (arith, length-append {A = Stored}, stored_of-few)
 
 -- where no thread can go on and nobody is inside a callback, the run has ended
 caused-whole : (run : Run) (S : State) (value : Option ℤ) → whole_value S.world ≡ value → enabled_among S 0 run.threads ≡ None → none_pending S ≡ true → S.halt ≡ None → cause_of_whole run S value ≡ None → ⊥
@@ -230,8 +221,10 @@ module _ (run : Run) (from : ℕ) (H : List Entry) (t : ℕ) (stands : StandsAt 
         record { seq = length H; thread = t; call = call_of between.world t e; snapshot = snap_of between.world t e; stores = stores }
 
     -- after the answer of the thread's part
-    visited-told : (longer : List Entry) → Answers stands_for (length H) t (call_of between.world t e) (snap_of between.world t e) parts (H ++ go_at t ∷ []) others longer → Visited stands_for run H t parts others longer
-    visited-told longer answers =
+    pub visited-said : (seq : ℕ) → seq ≡ length H → (longer : List Entry) → Answers stands_for seq t call snapshot parts (H ++ go_at t ∷ []) others longer
+        → Visited stands_for run H t parts others longer
+    visited-said seq seq_is longer said_so =
+        let answers = rw (seq_is, ← said.call_is, ← said.snapshot_is) at said_so in
         let stores : List Stored = stores_of answers.reply (snap_of between.world t e) in
         let whole = H ++ event_at t stores in
         let history : longer ≡ whole = answers.history_is ∙ append_assoc H (go_at t ∷ []) (event_reply t stores) in
@@ -240,16 +233,10 @@ module _ (run : Run) (from : ℕ) (H : List Entry) (t : ℕ) (stands : StandsAt 
         let under : t < run.threads = omega (arith, below) in
         let waits = waits-put_all run between t e 0 stores (record { pending = inside-event e said.happens; registered = said.registered }) in
         subst (λ K. Visited stands_for run H t parts others K) (sym history)
-        (visited-event stands_for parts others e said.happens stores (stores-few answers.reply (snap_of between.world t e)) (may-store run H t e stands.some said.happens answers.reply said.registered) waits
-        (own-told run H whole t (item_with stores) refl under more stands.own)
-        (told-silent run H whole t (item_with stores) refl more under)
+        (visited-event stands_for parts others e said.happens stores (stores-few answers.reply (snap_of between.world t e))
+        (may-store run H t e stands.some said.happens answers.reply said.registered) waits
+        (own-told run H whole t (item_with stores) refl under more stands.own) (told-silent run H whole t (item_with stores) refl more under)
         (serves-told stands_for run parts others H whole t (item_with stores) refl more answers.as_many answers.each))
-
-    pub visited-said : (seq : ℕ) → seq ≡ length H → (longer : List Entry) → Answers stands_for seq t call snapshot parts (H ++ go_at t ∷ []) others longer → Visited stands_for run H t parts others longer
-    visited-said seq seq_is longer answers =
-        let one = subst (λ seq. Answers stands_for seq t call snapshot parts (H ++ go_at t ∷ []) others longer) seq_is answers in
-        let two = subst (λ (call : Call). Answers stands_for (length H) t call snapshot parts (H ++ go_at t ∷ []) others longer) (sym said.call_is) one in
-        visited-told longer (subst (λ (snapshot : Snapshot). Answers stands_for (length H) t (call_of between.world t e) snapshot parts (H ++ go_at t ∷ []) others longer) (sym said.snapshot_is) two)
 
     -- where the part found no memory, nothing more was heard, and the history ends inside the callback
     pub serves-said : OnlyUnheard stands_for (Some t) parts others → ServesTo stands_for run parts H others (H ++ go_at t ∷ [])
