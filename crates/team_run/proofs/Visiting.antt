@@ -4,12 +4,12 @@ use Rattle.std.{specs.List.list_all, proofs.lemmas.Bool.true≢false, proofs.lem
 use Rattle.omp_model.specs.declared.cause.Cause.TheVariants as cause
 use Rattle.omp_model.proofs.Turns.{Leaves, leaves-turn, turn-pending, turns-rise, back-turns}
 use Rattle.omp_model.proofs.Recording.{HasRun-start, HasRun-after, HasRun-alone, HasRun-event, HasRun-serial, HasRun-whole, HasRun-pending, heard-alone, heard-event, heard-pending, event_at, first_enabled-below, first_enabled-enabled, first_enabled-none, put_all-turns, StoresNothing-append}
-use Rattle.omp_model.{specs.declared.event.Outcome.TheVariants.Idle, specs.declared.event.Outcome.TheVariants.Quiet, specs.declared.event.Outcome.TheVariants.Happens, specs.declared.event.Outcome.TheVariants.Halts, specs.declared.event.Halt.Halt, specs.Cause.whole_value, specs.Cause.is_stuck, specs.Cause.cause_of_whole, specs.Cause.cause_by_halt, specs.Storing.put_all, specs.Storing.MayStore, specs.Legal.put}
+use Rattle.omp_model.{specs.declared.event.Outcome.TheVariants.Happens, specs.declared.event.Halt.Halt, specs.Cause.whole_value, specs.Cause.is_stuck, specs.Cause.cause_of_whole, specs.Cause.cause_by_halt, specs.Storing.put_all, specs.Storing.MayStore, specs.Legal.put}
 use Rattle.omp_model.{specs.Running.HasRun, specs.Serial.enabled_among, proofs.SerialLaws.serial-whole, proofs.Replies.may-store}
-use Rattle.ompt_calls.specs.{Snapshot.target_of, Snapshot.stored, Snapshot.stored_of, declared.snapshot.Target.Target, declared.reply.Store.Store}
+use Rattle.ompt_calls.specs.{Snapshot.target_of, Snapshot.stored, Snapshot.stored_of, declared.reply.Store.Store}
 use Rattle.omp_machine.proofs.{Storing.Inside, Storing.inside-put, Telling.IsTold, Telling.IsUntold}
 use Rattle.step_book.proofs.{Telling.HasUntold, Telling.IsAlone, Visiting.inside-told}
-use Rattle.team_run.specs.Names.{Call, Snapshot, Item, Reply, Stored, stores_of, Entry, Callback, Cause, Event, Outcome, Run, State, first, pending_at, call_of, snap_of, turn, called, after, put_from, back_from, back, heard, first_enabled, inside_after, StoresNothing, go_at, event_reply, none_pending, cause_of, BookView, state_of, with_entries, turn_visit, Record}
+use Rattle.team_run.specs.Names.{Call, Snapshot, Item, Reply, Stored, stores_of, Entry, Callback, Cause, Event, Outcome, Run, State, pending_at, call_of, snap_of, turn, called, after, put_from, back_from, back, heard, first_enabled, inside_after, StoresNothing, go_at, event_reply, none_pending, cause_of, BookView, state_of, with_entries, turn_visit, Record}
 use Rattle.team_run.specs.Serving.{AreSame, Serves, ServesTo, OnlyUnheard, Answers}
 use Rattle.team_run.specs.Standing.{AreSilent, HearsOwn, HearsSilent, StandsAt, StopsAt}
 use Rattle.team_run.proofs.Serving.{serves-told, serves-unheard, served-nil, told-silent, own-told, own-unheard, heard_of-same}

@@ -121,30 +121,24 @@ module _ {P : Type 0} (stands_for : P → Record → Type 0) (Same : P → P →
   abbrev Inside : PassView → P → Type 0
   Inside pass part = IsInside stands_for Same run whose pass part
 
-  -- others' entries change nothing
-  pub driven-others : (pass later : PassView) (part : P) (more : List Entry) → NotBy pass.thread more → later.thread ≡ pass.thread → entries_of later.seen ≡ entries_of pass.seen ++ more → (pass.ended ≡ true → later.ended ≡ true) → Driven pass part → Driven later part
-  driven-others pass later part more none thread seen ended driven = record {
-    unheard = driven.unheard;
-    left = rw (seen, thread) (left-others run (entries_of pass.seen) more pass.thread driven.unheard none driven.left);
-    over = λ unheard. ended (driven.over unheard);
-    hears = λ h stands. rw (seen, thread, heard-others run (entries_of pass.seen) more pass.thread none) (driven.hears h stands);
-    same_is = driven.same_is;
-  }
-
   -- a hold without an entry
-  pub driven-grown : (pass later : PassView) (part : P) → AddsHold pass later [] → (pass.ended ≡ true → later.ended ≡ true) → Driven pass part → Driven later part
+  driven-grown : (pass later : PassView) (part : P) → AddsHold pass later [] → (pass.ended ≡ true → later.ended ≡ true) → Driven pass part → Driven later part
   driven-grown pass later part grows ended driven =
-      driven-others pass later part (entries_of grows.between) grows.is_hold.not_by grows.is_hold.thread (hold-entries pass later grows.between [] grows.is_hold ∙ append-nil _) ended driven
+      let more = entries_of grows.between in
+      let seen : entries_of later.seen ≡ entries_of pass.seen ++ more = hold-entries pass later grows.between [] grows.is_hold ∙ append-nil _ in record {
+        unheard = driven.unheard;
+        left = rw (seen, grows.is_hold.thread) (left-others run (entries_of pass.seen) more pass.thread driven.unheard grows.is_hold.not_by driven.left);
+        over = λ unheard. ended (driven.over unheard);
+        hears = λ h stands. rw (seen, grows.is_hold.thread, heard-others run (entries_of pass.seen) more pass.thread grows.is_hold.not_by) (driven.hears h stands);
+        same_is = driven.same_is;
+      }
 
   -- a pass that hasn't ended the run is inside no callback
-  not-unheard : (pass : PassView) (part : P) → pass.ended ≡ false → (driven : Driven pass part) → driven.unheard ≡ false
-  not-unheard pass part ended driven = false_from_ne_true driven.unheard (λ is. true≢false (sym (driven.over is) ∙ ended))
-
-  pub outside-of : (pass : PassView) (part : P) → pass.ended ≡ false → Driven pass part → pending_at (after run (entries_of pass.seen)) pass.thread ≡ None
-  outside-of pass part ended driven = rw (not-unheard pass part ended driven) at driven.left
-
-  pub inside-of : (pass : PassView) (part : P) → pass.ended ≡ false → Driven pass part → Inside pass part
-  inside-of pass part ended driven = record { hears = rw (not-unheard pass part ended driven) at driven.hears; same_is = driven.same_is }
+  open-of : (pass : PassView) (part : P) → pass.ended ≡ false → Driven pass part
+      → (pending_at (after run (entries_of pass.seen)) pass.thread ≡ None) × Inside pass part
+  open-of pass part ended driven =
+      let heard : driven.unheard ≡ false = false_from_ne_true driven.unheard (λ is. true≢false (sym (driven.over is) ∙ ended)) in
+      (rw heard at driven.left, record { hears = rw heard at driven.hears; same_is = driven.same_is })
 
   pub driven-open : (pass : PassView) (part : P) → pending_at (after run (entries_of pass.seen)) pass.thread ≡ None → Inside pass part → Driven pass part
   driven-open pass part outside inside =
@@ -158,10 +152,10 @@ module _ {P : Type 0} (stands_for : P → Record → Type 0) (Same : P → P →
       let front = entries_of pass.seen ++ entries_of goes.between in
       let t = pass.thread in
       let whole : book.history ≡ front = entries-append pass.seen goes.between in
-      let outside : pending_at (after run book.history) t ≡ None = rw whole (left-others run (entries_of pass.seen) (entries_of goes.between) t false goes.is_hold.not_by (outside-of pass part ended driven)) in
+      let outside : pending_at (after run book.history) t ≡ None = rw whole (left-others run (entries_of pass.seen) (entries_of goes.between) t false goes.is_hold.not_by (open-of pass part ended driven).0) in
       let calm = calm-visit book t below outside (λ seq call snapshot told. none seq call snapshot (goes.step_is ∙ told)) in
       let seen : entries_of later.seen ≡ book.history ++ (visit book t).added = hold-entries pass later goes.between (visit book t).added goes.is_hold ∙ ap (λ front. front ++ (visit book t).added) (sym whole) in
-      let inside = inside-of pass part ended driven in
+      let inside = (open-of pass part ended driven).1 in
       let same : heard_of run (entries_of later.seen) later.thread ≡ heard_of run (entries_of pass.seen) t = rw (seen, goes.is_hold.thread) (calm.same ∙ rw whole (heard-others run (entries_of pass.seen) (entries_of goes.between) t goes.is_hold.not_by)) in
       driven-open later part (rw (seen, goes.is_hold.thread) calm.outside) (record { hears = λ h stands. rw same (inside.hears h stands); same_is = inside.same_is })
 
@@ -170,16 +164,13 @@ module _ {P : Type 0} (stands_for : P → Record → Type 0) (Same : P → P →
   inside-told pass later part seq call snapshot ended goes driven =
       let book = book_after run (pass.seen ++ goes.between) goes.ended in
       let t = pass.thread in
-      let inside = inside-of pass part ended driven in
+      let inside = (open-of pass part ended driven).1 in
       let more = entries_of goes.between ++ go_at t ∷ [] in
       let seen : entries_of later.seen ≡ entries_of pass.seen ++ more =
       hold-entries pass later goes.between (visit book t).added goes.is_hold ∙ ap (λ added. (entries_of pass.seen ++ entries_of goes.between) ++ added) (told-added book t seq call snapshot (sym goes.step_is)) ∙ append_assoc (entries_of pass.seen) (entries_of goes.between) (go_at t ∷ []) in
       let same : heard_of run (entries_of later.seen) later.thread ≡ heard_of run (entries_of pass.seen) t =
-      rw (seen, goes.is_hold.thread) (more-without run (first run) 0 t (entries_of pass.seen) more (no-back t (entries_of goes.between) goes.is_hold.not_by)) in
+      rw (seen, goes.is_hold.thread) (more-without run (first run) 0 t (entries_of pass.seen) more (back-append t (entries_of goes.between) (go_at t ∷ []) refl ∙ back-others t (entries_of goes.between) goes.is_hold.not_by)) in
       record { hears = λ h stands. rw same (inside.hears h stands); same_is = inside.same_is }
-    where
-      no-back : (t : ℕ) (xs : List Entry) → NotBy t xs → has_back t (xs ++ go_at t ∷ []) ≡ false
-      no-back t xs none = back-append t xs (go_at t ∷ []) refl ∙ back-others t xs none
 
   -- its callback was answered
   pub driven-answered :

@@ -126,9 +126,7 @@ does-inside run S u t Go none inside = by (turn run S u).outcome (leaves-turn ru
   where
     by : (o : Outcome) → Leaves S u (turn run S u).state o → Inside (turn run S u).state t
     by (outcome.Happens event) leaves = rw leaves.2 (at-set (λ (callback : Option Callback). IsSome callback) None S.pending u t (Some (called event)) inside (λ same. refl))
-    by outcome.Idle leaves = rw leaves.2 inside
-    by outcome.Quiet leaves = rw leaves.2 inside
-    by (outcome.Halts halt) leaves = rw leaves.2 inside
+    by o leaves = rw leaves.2 inside
 does-inside run S u t (Put place word) none inside = elim (pending_at S u) as (λ callback. Inside (put_from S u place word callback) t) [
   | None ↦ inside
   | Some callback ↦ at-set (λ (callback : Option Callback). IsSome callback) None S.pending u t (Some (record callback { stores = callback.stores + 1 })) inside (λ same. refl)
@@ -159,9 +157,7 @@ does-many run S u Go = by (turn run S u).outcome (leaves-turn run S u)
   where
     by : (o : Outcome) → Leaves S u (turn run S u).state o → length (turn run S u).state.pending ≡ length S.pending
     by (outcome.Happens event) leaves = rw leaves.2 (length-set S.pending u (Some (called event)))
-    by outcome.Idle leaves = rw leaves.2
-    by outcome.Quiet leaves = rw leaves.2
-    by (outcome.Halts halt) leaves = rw leaves.2
+    by o leaves = rw leaves.2
 does-many run S u (Put place word) = elim (pending_at S u) as (λ callback. length (put_from S u place word callback).pending ≡ length S.pending) [ None ↦ refl | Some callback ↦ length-set S.pending u (Some (record callback { stores = callback.stores + 1 })) ]
 does-many run S u Back = elim (pending_at S u) as (λ callback. length (back_from S u callback).pending ≡ length S.pending) [ None ↦ refl | Some callback ↦ length-set S.pending u None ]
 
@@ -177,17 +173,15 @@ heard-split run S position t (entry ∷ rest) more within outside =
     rw (heard-first run S position t entry (rest ++ more), heard-first run S position t entry rest, head-front run S position t entry rest more own, heard-split run next (position + 1) t rest more (rw (does-many run S entry.thread entry.what) within) outside, ← place)
     (sym (append_assoc (head-of run S position t entry rest) (heard_on run next (position + 1) rest t) (heard_on run (after_from run next rest) (position + 1 + length rest) more t)))
 
--- nothing is heard of stores and Backs
-pub reply-silent : (run : Run) (S : State) (position t : ℕ) (stores : List Stored) → heard_from run S position (event_reply t stores) ≡ []
-reply-silent run S position t [] = refl
-reply-silent run S position t (store ∷ rest) = reply-silent run (entered run S (put_at t store)) (position + 1) t rest
-
--- nor, on the thread, of others' entries, whatever follows
-others-silent : (run : Run) (S : State) (position t : ℕ) (entries more : List Entry) → NotBy t entries → heard_on run S position (entries ++ more) t ≡ heard_on run (after_from run S entries) (position + length entries) more t
-others-silent run S position t [] more none = ap (λ place. heard_on run S place more t) (omega arith)
-others-silent run S position t (entry ∷ rest) more none =
-    let place : position + 1 + length rest ≡ position + length (entry ∷ rest) = omega arith in
-    rw (heard-first run S position t entry (rest ++ more), at-other run S position entry.thread entry.what (rest ++ more) t (ne_eqb entry.thread t none.0), others-silent run (entered run S entry) (position + 1) t rest more none.1, place) refl
+-- nothing is heard of stores and Backs, nor, on the thread, of others' entries before them
+reply-unheard : (run : Run) (S : State) (position t : ℕ) (since : List Entry) (stores : List Stored) → NotBy t since
+    → heard_on run S position (since ++ event_reply t stores) t ≡ []
+reply-unheard run S position t [] [] none = refl
+reply-unheard run S position t [] (store ∷ rest) none = reply-unheard run (entered run S (put_at t store)) (position + 1) t [] rest tt
+reply-unheard run S position t (entry ∷ since) stores none =
+    let rest = since ++ event_reply t stores in
+    rw (heard-first run S position t entry rest, at-other run S position entry.thread entry.what rest t (ne_eqb entry.thread t none.0))
+    (reply-unheard run (entered run S entry) (position + 1) t since stores none.1)
 
 -- the Back and the stores of a reply behind others' entries
 reply-back : (t : ℕ) (since : List Entry) (stores : List Stored) → has_back t (since ++ event_reply t stores) ≡ true
@@ -208,5 +202,5 @@ answered run S position t event since stores happens registered none =
     let next = (turn run S t).state in
     let rest = since ++ event_reply t stores in
     let one : heard_at run S position t Go rest ≡ item_with position t next.world event stores ∷ [] = rw (happens, registered, reply-back t since stores, reply-stores t since stores none) refl in
-    let tail : heard_on run next (position + 1) rest t ≡ [] = others-silent run next (position + 1) t since (event_reply t stores) none ∙ ap (on_thread t) (reply-silent run (after_from run next since) (position + 1 + length since) t stores) in
+    let tail : heard_on run next (position + 1) rest t ≡ [] = reply-unheard run next (position + 1) t since stores none in
     rw (heard-first run S position t (go_at t) rest, one, tail, eq-eqb t t refl) refl
