@@ -5,7 +5,7 @@ use Rattle.std.proofs.lemmas.List.{drop_more, get_or_append_left, get_or_at, get
 use Rattle.omp_model.specs.declared.cause.Cause.TheVariants as causes
 use Rattle.omp_model.proofs.MadeRuns.{at-replicate}
 use Rattle.step_book.{specs.Rule.NoneBy, specs.Sharing.AreOwn, specs.Sharing.IsClosed, specs.Sharing.any_ended, specs.Sharing.fresh_pass, proofs.Others.entries-append, proofs.Others.holds-others, proofs.Others.own-back}
-use Rattle.team_run.specs.Names.{Record, Cause, Callback, Entry, Run, first, pending_at, cause_of, heard_of, after, Closed, NotBy, entries_of, PassView}
+use Rattle.team_run.specs.Names.{Record, Cause, Callback, Entry, Run, first, pending_at, cause_of, heard_of, after, Closed, entries_of, PassView}
 use Rattle.team_run.{specs.Serving.called_for, specs.Unheard.LeftAt, specs.Standing.HearsOwn, proofs.Serving.served-nil}
 use Rattle.thread_run.specs.Drivers.{AreDrivers, AreFor, AreKept, HasServed, IsDriver}
 use Rattle.thread_run.{specs.Driving.IsDriven, proofs.Driving.heard-others, proofs.Driving.left-others}
@@ -109,45 +109,39 @@ module _ {P : Type 0} (stands_for : P → Record → Type 0) (Same : P → P →
   driver : (k : ℕ) → k < run.threads → IsDriver stands_for Same run k (get_or parts k p) (get_or passes k none) (get_or others k p)
   driver k below = drivers k none p p (omega (arith, below, passed))
 
-  -- what stands in the history beyond what a pass has seen is others'
-  record Beyond (k : ℕ) : Type 0 where
-    more : List Entry
-    whole : closed.history ≡ entries_of (get_or passes k none).seen ++ more
-    not_by : NotBy k more
-
-  beyond : (k : ℕ) → k < run.threads → Beyond k
-  beyond k below =
-      let begins = is_closed.begins k none below in
-      let seen = (get_or passes k none).seen in record {
-        more = entries_of begins.rest;
-        whole = is_closed.entries ∙ ap entries_of begins.whole ∙ entries-append seen begins.rest;
-        not_by = holds-others k begins.rest (own-back seen begins.rest (subst AreOwn begins.whole is_closed.own)) begins.others;
-      }
-
   abbrev unheard-by : (k : ℕ) → (k < run.threads) ⊎ (run.threads ≤ k) → Bool
   unheard-by k (inl below) = (driver k below).driven.unheard
   unheard-by k (inr past) = false
 
-  left-by : (k : ℕ) (c : (k < run.threads) ⊎ (run.threads ≤ k)) → k < run.threads → LeftAt run closed.history k (unheard-by k c)
-  left-by k (inl below) less =
-      let b = beyond k below in
-      let d = driver k below in
-      subst (λ history. LeftAt run history k d.driven.unheard) (sym b.whole) (left-others run (entries_of (get_or passes k none).seen) b.more k d.driven.unheard b.not_by (rw d.thread at d.driven.left))
-  left-by k (inr past) less = absurd (omega arith)
+  -- what the driver of a thread has come to, by the whole history
+  record HasEnded (k : ℕ) (unheard : Bool) : Type 0 where
+    left : LeftAt run closed.history k unheard
+    heard : closed.cause ≢ Some causes.Memory → unheard ≡ false
+    hears : (d : P) (h : Record) → stands_for (get_or parts k d) h
+        → stands_for (get_or others k d) (called_for (heard_of run closed.history k) unheard h)
 
-  heard-by : (k : ℕ) (c : (k < run.threads) ⊎ (run.threads ≤ k)) → closed.cause ≢ Some causes.Memory → k < run.threads → unheard-by k c ≡ false
-  heard-by k (inl below) other less = false_from_ne_true (driver k below).driven.unheard (λ unheard. other (cause_is ∙ rw (any-at passes k none (omega (arith, below, passed)) ((driver k below).driven.over unheard)) refl))
-  heard-by k (inr past) other less = absurd (omega arith)
-
-  each-by : (k : ℕ) (c : (k < run.threads) ⊎ (run.threads ≤ k)) (d : P) (h : Record) → k < length parts → stands_for (get_or parts k d) h → stands_for (get_or others k d) (called_for (heard_of run closed.history k) (unheard-by k c) h)
-  each-by k (inl below) d h less stands =
-      let b = beyond k below in
+  -- what stands there beyond what its pass has seen is others'
+  has-ended : (k : ℕ) (c : (k < run.threads) ⊎ (run.threads ≤ k)) → k < run.threads → HasEnded k (unheard-by k c)
+  has-ended k (inl below) less =
       let one = driver k below in
-      let from = subst (λ part. stands_for part h) (get_or_default parts k d p less) stands in
-      let hears = rw one.thread at (one.driven.hears h from) in
-      let same : heard_of run closed.history k ≡ heard_of run (entries_of (get_or passes k none).seen) k = ap (λ history. heard_of run history k) b.whole ∙ heard-others run (entries_of (get_or passes k none).seen) b.more k b.not_by in
-      subst (λ part. stands_for part (called_for (heard_of run closed.history k) one.driven.unheard h)) (get_or_default others k p d (omega (arith, below, back))) (rw same hears)
-  each-by k (inr past) d h less stands = absurd (omega arith)
+      let begins = is_closed.begins k none below in
+      let seen = (get_or passes k none).seen in
+      let more = entries_of begins.rest in
+      let whole : closed.history ≡ entries_of seen ++ more = is_closed.entries ∙ ap entries_of begins.whole ∙ entries-append seen begins.rest in
+      let not_by = holds-others k begins.rest (own-back seen begins.rest (subst AreOwn begins.whole is_closed.own)) begins.others in
+      let same : heard_of run closed.history k ≡ heard_of run (entries_of seen) k =
+      ap (λ history. heard_of run history k) whole ∙ heard-others run (entries_of seen) more k not_by in record {
+        left = subst (λ history. LeftAt run history k one.driven.unheard) (sym whole)
+            (left-others run (entries_of seen) more k one.driven.unheard not_by (rw one.thread at one.driven.left));
+        heard = λ other. false_from_ne_true one.driven.unheard
+            (λ unheard. other (cause_is ∙ rw (any-at passes k none (omega (arith, below, passed)) (one.driven.over unheard)) refl));
+        hears = λ d h stands.
+            let from = subst (λ part. stands_for part h) (get_or_default parts k d p (omega (arith, below, count))) stands in
+            let hears = rw one.thread at (one.driven.hears h from) in
+            subst (λ part. stands_for part (called_for (heard_of run closed.history k) one.driven.unheard h))
+            (get_or_default others k p d (omega (arith, below, back))) (rw same hears);
+      }
+  has-ended k (inr past) less = absurd (omega arith)
 
   pub have-served : HasServed stands_for Same run closed parts others
   have-served cause known begun =
@@ -164,9 +158,9 @@ module _ {P : Type 0} (stands_for : P → Record → Type 0) (Same : P → P →
         text_is = text;
         as_many = back ∙ sym count;
         unheard = λ k. unheard-by k (cases_lt k run.threads);
-        are_unheard = λ k below. left-by k (cases_lt k run.threads) below;
-        all_heard = λ found k below. heard-by k (cases_lt k run.threads) (other found) below;
-        each = λ k d h below stands. each-by k (cases_lt k run.threads) d h below stands;
+        are_unheard = λ k below. (has-ended k (cases_lt k run.threads) below).left;
+        all_heard = λ found k below. (has-ended k (cases_lt k run.threads) below).heard (other found);
+        each = λ k d h below stands. (has-ended k (cases_lt k run.threads) (omega (arith, below, count))).hears d h stands;
         same = record {
           each = λ k d below.
               subst (λ part. Same (get_or parts k d) part) (sym (get_or_default others k d p (omega (arith, below, count, back))))

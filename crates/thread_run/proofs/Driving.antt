@@ -3,7 +3,7 @@ use Rattle.std.proofs.Common.{◌≡◌, ℕ, ◌+◌, ◌<◌, Bool, true, fals
 use Rattle.std.{specs.Result.IsOk, proofs.lemmas.Bool.true≢false, proofs.lemmas.Bool.false_from_ne_true, proofs.lemmas.Bool.cases_lt, proofs.lemmas.List.get_or_past, proofs.lemmas.List.length-set, proofs.lemmas.List.length-replicate}
 use Rattle.omp_model.specs.declared.cause.Cause.TheVariants as causes
 use Rattle.omp_model.specs.declared.event.Outcome.TheVariants as outcome
-use Rattle.omp_model.{specs.Cause.cause_of, specs.Heard.has_back, specs.Legal.AllowsFrom, specs.Storing.back_at, specs.Storing.puts_at, proofs.Turns.leaves-turn, proofs.Turns.turn-goes}
+use Rattle.omp_model.{specs.Cause.cause_of, specs.Legal.AllowsFrom, specs.Storing.back_at, specs.Storing.puts_at, proofs.Turns.leaves-turn, proofs.Turns.turn-goes}
 use Rattle.step_book.specs.Visit.{Visit, idle_by, idle_step, is_turn, visit}
 use Rattle.step_book.{specs.declared.hold.Hold.Hold, specs.declared.step.Step.TheVariants.Quiet, specs.declared.step.Step.TheVariants.NotYet, specs.declared.step.Step.TheVariants.Ended, specs.Sharing.AnswersThen, specs.Sharing.VisitsAfterOthers, specs.Sharing.IsHold, specs.Steps.hold_by, proofs.Histories.after-append, proofs.Others.entries-append, proofs.Others.entries-others, proofs.Others.not_by-append}
 use Rattle.step_book.{proofs.Others.owes-still, proofs.Telling.ended-step, proofs.Telling.not_yet-step, proofs.Telling.quiet-step, proofs.Telling.told-step, proofs.Visiting.visit-idle, proofs.Visiting.visit-turn}
