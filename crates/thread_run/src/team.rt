@@ -1,8 +1,8 @@
 //! The drivers of a run, each on a thread of its own.
 
-ghost use Rattle.std.specs.Prelude.{◌≡◌, ◌≤◌, [], ℕ, List, length, vec_capacity};
+ghost use Rattle.std.specs.Prelude.{◌≡◌, ◌≤◌, ℕ, List, length};
 ghost use Rattle.thread_run.specs.Driving.{GoesOn};
-ghost use Rattle.thread_run.specs.Drivers.{AreDrivers, AreFor, AreKept, IsDriver, IsSlot};
+ghost use Rattle.thread_run.specs.Drivers.{AreDrivers, AreFor, AreKept, HasRoom, IsDriver, IsSlot};
 
 use crate::driver::{Visited, drive, visit};
 use std::snapshot::Snapshot;
@@ -153,8 +153,7 @@ pub(crate) fn start_all<'s, E: 's, R: Wait + Sync, K: BookName + 's, P: ToolPart
 ) -> Vec<Slot<K, P>>
     requires few { length passes.items ≤ 16 }
     requires each { length passes.items ≡ length parts.items }
-    requires empty { slots.items ≡ [] }
-    requires room { length passes.items ≤ vec_capacity slots }
+    requires room { HasRoom (length passes.items) slots }
     ensures as_many { length result.items ≡ length passes.items }
     ensures slots { AreDrivers P.stands_for P.same K.run parts.items passes.items parts.items →
         AreFor (IsSlot P.stands_for P.same K.run) parts.items result.items }
@@ -185,10 +184,8 @@ pub(crate) fn finish_all<R: Threads, K: BookName, P: ToolPart>(
     passes: Vec<Pass<K>>,
     parts: Vec<P>,
 ) -> (Vec<Pass<K>>, Vec<P>)
-    requires no_pass { passes.items ≡ [] }
-    requires no_part { parts.items ≡ [] }
-    requires passes { length slots.items ≤ vec_capacity passes }
-    requires parts { length slots.items ≤ vec_capacity parts }
+    requires passes { HasRoom (length slots.items) passes }
+    requires parts { HasRoom (length slots.items) parts }
     ensures passes { length result.0.items ≡ length slots.items }
     ensures parts { length result.1.items ≡ length slots.items }
     ensures drivers { (first : List P) → AreFor (IsSlot P.stands_for P.same K.run) first slots.items →

@@ -1,7 +1,7 @@
 //! The run by threads: each thread number has a thread of its own, where it can be started, and callbacks of different threads may overlap.
 
-ghost use Rattle.std.specs.Prelude.{◌≡◌, ◌≢◌, ◌≤◌, Some, IfOk, false, length, vec_capacity, []};
-ghost use Rattle.thread_run.specs.Drivers.{AreDrivers, HasServed};
+ghost use Rattle.std.specs.Prelude.{◌≡◌, ◌≢◌, ◌≤◌, Some, IfOk, false, length};
+ghost use Rattle.thread_run.specs.Drivers.{CanDrive, HasServed, HaveComeBack};
 ghost use Rattle.team_run.specs.Program.{IsRan, run_of};
 
 use crate::team::{Slot, Stays, drive_here, finish_all, start_all};
@@ -106,18 +106,8 @@ fn run_drivers<R: Threads + Wait + Sync, K: BookName, P: ToolPart>(
     passes_back: Vec<Pass<K>>,
     parts_back: Vec<P>,
 ) -> (Vec<Pass<K>>, Vec<P>)
-    requires few { length passes.items ≤ 16 }
-    requires each { length passes.items ≡ length parts.items }
-    requires no_slot { slots.items ≡ [] }
-    requires no_pass { passes_back.items ≡ [] }
-    requires no_part { parts_back.items ≡ [] }
-    requires slots { length passes.items ≤ vec_capacity slots }
-    requires passes { length passes.items ≤ vec_capacity passes_back }
-    requires parts { length passes.items ≤ vec_capacity parts_back }
-    ensures passes { length result.0.items ≡ length passes.items }
-    ensures parts { length result.1.items ≡ length passes.items }
-    ensures drivers { AreDrivers P.stands_for P.same K.run parts.items passes.items parts.items →
-        AreDrivers P.stands_for P.same K.run parts.items result.0.items result.1.items }
+    requires { CanDrive passes.items parts.items slots passes_back parts_back }
+    ensures { HaveComeBack P.stands_for P.same K.run passes.items parts.items result.0.items result.1.items }
 {
     // No start of a thread was refused yet.
     let stays: Stays = array::from_fn(|_| AtomicBool::new(false));
@@ -126,18 +116,8 @@ fn run_drivers<R: Threads + Wait + Sync, K: BookName, P: ToolPart>(
         thread::scope_env(),
         rt,
         move |scope| -> (Vec<Pass<K>>, Vec<P>)
-            requires few { length passes.items ≤ 16 }
-            requires each { length passes.items ≡ length parts.items }
-            requires no_slot { slots.items ≡ [] }
-            requires no_pass { passes_back.items ≡ [] }
-            requires no_part { parts_back.items ≡ [] }
-            requires slots { length passes.items ≤ vec_capacity slots }
-            requires passes { length passes.items ≤ vec_capacity passes_back }
-            requires parts { length passes.items ≤ vec_capacity parts_back }
-            ensures passes { length result.0.items ≡ length passes.items }
-            ensures parts { length result.1.items ≡ length passes.items }
-            ensures drivers { AreDrivers P.stands_for P.same K.run parts.items passes.items parts.items →
-                AreDrivers P.stands_for P.same K.run parts.items result.0.items result.1.items }
+            requires { CanDrive passes.items parts.items slots passes_back parts_back }
+            ensures { HaveComeBack P.stands_for P.same K.run passes.items parts.items result.0.items result.1.items }
         {
             let mut slots = start_all(scope, rt, book, stays, passes, parts, slots);
             drive_here(rt, book, &mut slots);
