@@ -26,13 +26,12 @@ pub fn run_serial<P: ToolPart>(
     alloc: Global,
     program: Program,
     limits: Limits,
-    parts: Vec<P>,
+    mut parts: Vec<P>,
 ) -> Result<Ran<P>, Memory>
     requires { length parts.items ≡ limits.threads }
     ensures ran { IfOk result (λ ran.
         IsRan P.stands_for P.same true (run_of program limits.threads limits.steps ran) parts.items ran) }
 {
-    let mut parts = parts;
     let start = initialize_first(&mut parts);
     let mask = mask_of(start);
     let book = Book::start(alloc, program, mask, limits)?;

@@ -149,7 +149,7 @@ pub(crate) fn start_all<'s, E: 's, R: Wait + Sync, K: BookName + 's, P: ToolPart
     stays: &'s Stays,
     passes: Vec<Pass<K>>,
     parts: Vec<P>,
-    slots: Vec<Slot<K, P>>,
+    mut slots: Vec<Slot<K, P>>,
 ) -> Vec<Slot<K, P>>
     requires few { length passes.items ≤ 16 }
     requires each { length passes.items ≡ length parts.items }
@@ -158,7 +158,6 @@ pub(crate) fn start_all<'s, E: 's, R: Wait + Sync, K: BookName + 's, P: ToolPart
     ensures slots { AreDrivers P.stands_for P.same K.run parts.items passes.items parts.items →
         AreFor (IsSlot P.stands_for P.same K.run) parts.items result.items }
 {
-    let mut slots = slots;
     let mut parts = parts.into_iter();
     for pass in passes {
         let Some(part) = parts.next() else {
@@ -181,8 +180,8 @@ pub(crate) fn start_all<'s, E: 's, R: Wait + Sync, K: BookName + 's, P: ToolPart
 pub(crate) fn finish_all<R: Threads, K: BookName, P: ToolPart>(
     rt: &R,
     slots: Vec<Slot<K, P>>,
-    passes: Vec<Pass<K>>,
-    parts: Vec<P>,
+    mut passes: Vec<Pass<K>>,
+    mut parts: Vec<P>,
 ) -> (Vec<Pass<K>>, Vec<P>)
     requires passes { HasRoom (length slots.items) passes }
     requires parts { HasRoom (length slots.items) parts }
@@ -191,8 +190,6 @@ pub(crate) fn finish_all<R: Threads, K: BookName, P: ToolPart>(
     ensures drivers { (first : List P) → AreFor (IsSlot P.stands_for P.same K.run) first slots.items →
         AreDrivers P.stands_for P.same K.run first result.0.items result.1.items }
 {
-    let mut passes = passes;
-    let mut parts = parts;
     for slot in slots {
         let (pass, part) = finish(rt, slot);
         passes.push_reserved(pass);
