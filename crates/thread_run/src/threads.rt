@@ -19,15 +19,11 @@ use step_book::{Blank, BookName, Closed, Pass, SharedBook};
 use team_run::{Memory, Ran, finalize_first, initialize_first, mask_of};
 use tool_api::ToolPart;
 
-/// Runs the program with so many threads, each on a thread of its own, and so many silent steps at most. Part t is called for the events of
-/// thread t, on its thread, and no lock is held meanwhile.
+/// Runs the program with each thread number on a thread of its own, or driven by the caller where that can't be started. What the parts are
+/// called for, and what no clause says, stands at [`Ran`].
 ///
-/// Part 0 is started before the first entry. What it registers is heard, where it answers another number than 0, and else nothing. Where it
-/// answers another number than 0 it is finished after the last entry, when all threads have come back. A thread that can't be started is
-/// driven by the caller.
-///
-/// No clause says when memory is wanting, that the run ends, or that callbacks overlap. That an error comes only before the first entry is to be
-/// read.
+/// A part is called on its thread, and no lock is held meanwhile. Part 0 is finished when all threads have come back. No clause says that
+/// the run ends, or that callbacks overlap.
 pub fn run_threads<R: Threads + Wait + Sync, P: ToolPart>(
     rt: &R,
     alloc: Global,
