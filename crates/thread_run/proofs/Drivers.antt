@@ -1,7 +1,7 @@
 -- The drivers of a run: as they are started, and once all have come back.
 use Rattle.std.proofs.Common.{◌≡◌, ◌≢◌, ℕ, zero, suc, ◌+◌, ◌<◌, ◌≤◌, Bool, true, false, if◌then◌else◌, List, [], ◌∷◌, ◌++◌, length, length-append, get_or, slice_set, drop, Option, Some, None, refl, sym, ap, subst, ◌∙◌, append_assoc, inl, inr, ◌⊎◌, arith}
 use Rattle.std.proofs.lemmas.Bool.{true≢false, false_from_ne_true, cases_eq, cases_lt, or_left, or_right}
-use Rattle.std.proofs.lemmas.List.{drop_more, get_or_append_left, get_or_at, get_or_default, get_or_push, get_or-set_same, get_or-set_other, length-drop}
+use Rattle.std.proofs.lemmas.List.{drop_more, get_or_append_left, get_or_at, get_or_default, get_or_push, get_or-set_same, get_or-set_other, length-drop, length-set}
 use Rattle.omp_model.specs.declared.cause.Cause.TheVariants as causes
 use Rattle.omp_model.proofs.MadeRuns.{at-replicate}
 use Rattle.step_book.{specs.Rule.NoneBy, specs.Sharing.AreOwn, specs.Sharing.IsClosed, specs.Sharing.any_ended, specs.Sharing.fresh_pass, proofs.Others.entries-append, proofs.Others.holds-others, proofs.Others.own-back}
@@ -70,16 +70,25 @@ for-more is parts slots slot each one k d e below = elim (cases_eq k (length slo
 ]
 
 -- a list of which one was changed
-pub kept-set : {P L : Type 0} (is : ℕ → P → L → Type 0) (slots others : List L) (place : ℕ) (none next : L) → AreKept is slots others → length others ≡ length slots → place < length others
-    → ((t : ℕ) (whose : P) → is t whose (get_or others place none) → is t whose next) → AreKept is slots (slice_set others place next)
-kept-set is slots others place none next kept as_many within goes k d t whose below there = elim (cases_eq k place) [
-  | inl here ↦ rw (here, get_or-set_same others place next d within) (goes t whose (subst (λ slot. is t whose slot) (get_or_default others place d none within) (subst (λ k. is t whose (get_or others k d)) here (kept k d t whose below there))))
-  | inr other ↦ rw (get_or-set_other others place k next d other) (kept k d t whose below there)
-]
+pub kept-set : {P L : Type 0} (is : ℕ → P → L → Type 0) (slots others : List L) (place : ℕ) (none next : L) → AreKept is slots others
+    → place < length others → ((t : ℕ) (whose : P) → is t whose (get_or others place none) → is t whose next)
+    → AreKept is slots (slice_set others place next)
+kept-set is slots others place none next kept within goes = record {
+  as_many = length-set others place next ∙ kept.as_many;
+  each = λ k d t whose below there. elim (cases_eq k place) [
+    | inl here ↦ rw (here, get_or-set_same others place next d within)
+        (goes t whose (rw (here, get_or_default others place d none within) at (kept.each k d t whose below there)))
+    | inr other ↦ rw (get_or-set_other others place k next d other) (kept.each k d t whose below there)
+  ];
+}
 
 -- a list that was changed twice
-pub kept-then : {P L : Type 0} (is : ℕ → P → L → Type 0) (slots between others : List L) → length between ≡ length slots → AreKept is slots between → AreKept is between others → AreKept is slots others
-kept-then is slots between others as_many one two k d t whose below there = two k d t whose (omega (arith, below, as_many)) (one k d t whose below there)
+pub kept-then : {P L : Type 0} (is : ℕ → P → L → Type 0) (slots between others : List L) → AreKept is slots between
+    → AreKept is between others → AreKept is slots others
+kept-then is slots between others one two = record {
+  as_many = two.as_many ∙ one.as_many;
+  each = λ k d t whose below there. two.each k d t whose (omega (arith, below, one.as_many)) (one.each k d t whose below there);
+}
 
 -- What a closed book says.
 
@@ -169,9 +178,10 @@ module _ {P : Type 0} (stands_for : P → Record → Type 0) (Same : P → P →
       }
 
 -- what is so of each is so of each that was kept
-pub for-kept : {P L : Type 0} (is : ℕ → P → L → Type 0) (parts : List P) (slots others : List L) → length others ≡ length slots → AreFor is parts slots → AreKept is slots others → AreFor is parts others
-for-kept is parts slots others as_many each kept k d e below =
-    let less : k < length slots = omega (arith, below, as_many) in kept k d k (get_or parts k e) less (each k d e less)
+pub for-kept : {P L : Type 0} (is : ℕ → P → L → Type 0) (parts : List P) (slots others : List L) → AreFor is parts slots
+    → AreKept is slots others → AreFor is parts others
+for-kept is parts slots others each kept k d e below =
+    let less : k < length slots = omega (arith, below, kept.as_many) in kept.each k d k (get_or parts k e) less (each k d e less)
 
 -- the rest of a list from a place on, and the next item
 pub rest-next : {P : Type 0} (parts rest more : List P) (n : ℕ) (part : P) → rest ≡ drop n parts → rest ≡ part ∷ more → (more ≡ drop (n + 1) parts) × ((d : P) → part ≡ get_or parts n d)

@@ -29,10 +29,10 @@ abbrev pub AreDrivers : {P : Type 0} → (P → Record → Type 0) → (P → P 
 AreDrivers {P = P} stands_for Same run first passes parts = (k : ℕ) (d : PassView) (e f : P) → k < length passes →
     IsDriver stands_for Same run k (get_or first k e) (get_or passes k d) (get_or parts k f)
 
--- what is so of a list of slots is so of the other
-abbrev pub AreKept : {P L : Type 0} → (ℕ → P → L → Type 0) → List L → List L → Type 0
-AreKept {P = P} {L = L} is slots others = (k : ℕ) (d : L) (t : ℕ) (first : P) → k < length slots →
-    is t first (get_or slots k d) → is t first (get_or others k d)
+-- what is so of a list of slots is so of the other, which is as long
+pub record AreKept {P L : Type 0} (is : ℕ → P → L → Type 0) (slots others : List L) : Type 0 where
+  pub as_many : length others ≡ length slots
+  pub each : (k : ℕ) (d : L) (t : ℕ) (first : P) → k < length slots → is t first (get_or slots k d) → is t first (get_or others k d)
 
 -- nothing is in this list, and there is room for so many
 pub record HasRoom {A : Type 0} (count : ℕ) (list : Vec A) : Type 0 where

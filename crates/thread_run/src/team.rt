@@ -89,8 +89,7 @@ pub(crate) fn drive_here<R: Wait, K: BookName, P: ToolPart>(
     book: &SharedBook<K>,
     slots: &mut [Slot<K, P>],
 )
-    ensures as_many { length slots.new ≡ length slots.old }
-    ensures kept { AreKept (IsSlot P.stands_for P.same K.run) slots.old slots.new }
+    ensures { AreKept (IsSlot P.stands_for P.same K.run) slots.old slots.new }
 {
     let here = slots.iter().filter(|slot| slot.driver.is_err()).count();
     for _ in rt.forever() {
@@ -108,8 +107,7 @@ fn visit_all<R: Wait, K: BookName, P: ToolPart>(
     slots: &mut [Slot<K, P>],
     here: usize,
 ) -> bool
-    ensures as_many { length slots.new ≡ length slots.old }
-    ensures kept { AreKept (IsSlot P.stands_for P.same K.run) slots.old slots.new }
+    ensures { AreKept (IsSlot P.stands_for P.same K.run) slots.old slots.new }
 {
     let mut goes_on = false;
     for place in 0..slots.len() {

@@ -14,5 +14,6 @@ returns g c =
       parts = c.finish_all.ensures.parts ∙ all;
       drivers = λ are.
           c.finish_all.ensures.drivers _
-          (rw back (for-kept (IsSlot {K = g.row.K.Denot} g.P.ToolPart.stands_for g.P.ToolPart.same g.K.BookName.run) _ slots.items c.drive_here.new.slots many (c.start_all-slots.ensures.slots are) (rw value at c.drive_here.ensures.kept)));
+          (rw back (for-kept (IsSlot {K = g.row.K.Denot} g.P.ToolPart.stands_for g.P.ToolPart.same g.K.BookName.run) _ slots.items
+          c.drive_here.new.slots (c.start_all-slots.ensures.slots are) (rw value at c.drive_here.ensures)));
     }
