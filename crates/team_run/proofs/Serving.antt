@@ -22,14 +22,15 @@ heard_of-more run H K items k more = ap (on_thread k) more ∙ filter-append (λ
 pub heard_of-same : (run : Run) (H K : List Entry) (k : ℕ) → heard run K ≡ heard run H → heard_of run K k ≡ heard_of run H k
 heard_of-same run H K k same = ap (on_thread k) same
 
--- a record with one more call, or none
-told-by : (b : Bool) (h : Record) (items : List Item) (item : Item) → (if b then told (served h items) item else served h items) ≡ served h (items ++ cond b (item ∷ []) [])
-told-by true h items item = ap (λ calls. record h { calls = calls }) (append_assoc h.calls items (item ∷ []))
-told-by false h items item = ap (λ more. served h more) (sym (append-nil items))
-
 -- the part of the thread is told of one item more, and the others are told of nothing
-told_on-served : (t k : ℕ) (h : Record) (items : List Item) (item : Item) → item.thread ≡ t → told_on t k item (served h items) ≡ served h (items ++ on_thread k (item ∷ []))
-told_on-served t k h items item is = subst (λ u. told_on t k item (served h items) ≡ served h (items ++ cond (u == k) (item ∷ []) [])) (sym is) (told-by (t == k) h items item)
+told_on-served : (t k : ℕ) (h : Record) (items : List Item) (item : Item) → item.thread ≡ t
+    → told_on t k item (served h items) ≡ served h (items ++ on_thread k (item ∷ []))
+told_on-served t k h items item is =
+    subst (λ u. told_on t k item (served h items) ≡ served h (items ++ cond (u == k) (item ∷ []) [])) (sym is)
+    (elim (t == k) as (λ b. (if b then told (served h items) item else served h items) ≡ served h (items ++ cond b (item ∷ []) [])) [
+      | true ↦ ap (λ calls. record h { calls = calls }) (append_assoc h.calls items (item ∷ []))
+      | false ↦ ap (λ more. served h more) (sym (append-nil items))
+    ])
 
 module _ {P : Type 0} (stands_for : P → Record → Type 0) (run : Run) where
   -- one step after another

@@ -86,21 +86,19 @@ stores-few : (reply : Reply) (snapshot : Snapshot) → length (stores_of reply s
 stores-few reply snapshot = omega (arith, length-append {A = Stored}, stored_of-few)
 
 -- where no thread can go on and nobody is inside a callback, the run has ended
-caused-whole : (run : Run) (S : State) (value : Option ℤ) → whole_value S.world ≡ value → enabled_among S 0 run.threads ≡ None → none_pending S ≡ true → S.halt ≡ None → cause_of_whole run S value ≡ None → ⊥
-caused-whole run S (Some value) whole none nobody running no_cause = cc
-caused-whole run S None whole none nobody running no_cause =
-    let stuck : is_stuck run S ≡ true = and_from _ _ (and_from _ _ (and_from _ _ (ap is_none none) nobody) (ap is_none running)) (ap is_none whole) in
+caused-by : (run : Run) (S : State) (halt : Option Halt) (value : Option ℤ) → S.halt ≡ halt → whole_value S.world ≡ value
+    → enabled_among S 0 run.threads ≡ None → none_pending S ≡ true → cause_by_halt run S halt ≡ None → ⊥
+caused-by run S (Some halt) value halted whole none nobody no_cause = cc
+caused-by run S None (Some value) halted whole none nobody no_cause = let found : cause_of_whole run S (Some value) ≡ None = rw whole at no_cause in cc
+caused-by run S None None halted whole none nobody no_cause =
+    let stuck : is_stuck run S ≡ true = and_from _ _ (and_from _ _ (and_from _ _ (ap is_none none) nobody) (ap is_none halted)) (ap is_none whole) in
     let deadlock : cause_of_whole run S None ≡ Some cause.Deadlock = rw stuck in
-    cc
-
-caused-halt : (run : Run) (S : State) (halt : Option Halt) → S.halt ≡ halt → enabled_among S 0 run.threads ≡ None → none_pending S ≡ true → cause_by_halt run S halt ≡ None → ⊥
-caused-halt run S (Some halt) halted none nobody no_cause = cc
-caused-halt run S None halted none nobody no_cause = caused-whole run S (whole_value S.world) refl none nobody halted no_cause
+    let found : cause_of_whole run S None ≡ None = rw whole at no_cause in cc
 
 pub caused : (run : Run) (from : ℕ) (H : List Entry) → StandsAt run from H → first_enabled run (after run H) from ≡ None → cause_of run H ≡ None → ⊥
 caused run from H stands over no_cause =
     let S = after run H in
-    caused-halt run S S.halt refl (first_enabled-none run S from stands.within over) stands.nobody no_cause
+    caused-by run S S.halt (whole_value S.world) refl refl (first_enabled-none run S from stands.within over) stands.nobody no_cause
 
 -- where nobody is inside a callback, each thread is in none
 pub all_none-at : (pending : List (Option Callback)) (t : ℕ) → all_none pending ≡ true → slice_index_or pending t None ≡ None
