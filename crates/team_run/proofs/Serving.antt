@@ -48,7 +48,8 @@ module _ {P : Type 0} (stands_for : P → Record → Type 0) (run : Run) where
   }
 
   -- where one item more is heard, and the part of its thread was told of it
-  pub serves-told : (parts others : List P) (H K : List Entry) (t : ℕ) (item : Item) → item.thread ≡ t → heard run K ≡ heard run H ++ item ∷ [] → length others ≡ length parts
+  pub serves-told : (parts others : List P) (H K : List Entry) (t : ℕ) (item : Item) → item.thread ≡ t
+      → heard run K ≡ heard run H ++ item ∷ [] → length others ≡ length parts
       → ((k : ℕ) → k < length parts → Becomes stands_for parts others k (told_on t k item)) → Serves stands_for run parts H None others K
   serves-told parts others H K t item is more as_many each = record {
     as_many = as_many;
@@ -67,7 +68,8 @@ pub told-silent : (run : Run) (H K : List Entry) (t : ℕ) (item : Item) → ite
     → t < run.threads → HearsSilent run K → HearsSilent run H × (item.stores ≡ [])
 told-silent run H K t item is more below silent =
     let parts : (k : ℕ) → k < run.threads → AreSilent (heard_of run H k) × AreSilent (on_thread k (item ∷ [])) = λ k under.
-    silent-parts (heard_of run H k) (on_thread k (item ∷ [])) (subst AreSilent (heard_of-more run H K (item ∷ []) k more) (silent k under)) in
+    silent-parts (heard_of run H k) (on_thread k (item ∷ []))
+    (subst AreSilent (heard_of-more run H K (item ∷ []) k more) (silent k under)) in
     let own : on_thread t (item ∷ []) ≡ item ∷ [] = rw (is, eq-eqb t t refl) refl in
     (λ k under. (parts k under).0, (subst AreSilent own (parts t below).1).0)
 
@@ -83,7 +85,8 @@ own-unheard run H K same own = λ k past. heard_of-same run H K k same ∙ own k
 
 -- a slice of a whole vector, written back
 pub written-back : {P : Type 0} (new items : List P) (len : ℕ) → length new ≡ length items → length items ≡ len → take len (new ++ drop (length new) items) ≡ new
-written-back new items len same all = ap (λ more. take len (new ++ more)) (drop_all (length new) items (omega (arith, same))) ∙ ap (take len) (append-nil new) ∙ take_all len new (omega (arith, same, all))
+written-back new items len same all = ap (λ more. take len (new ++ more)) (drop_all (length new) items (omega (arith, same)))
+    ∙ ap (take len) (append-nil new) ∙ take_all len new (omega (arith, same, all))
 
 -- what a slice of a whole vector came to, said of the vector
 pub changes-vector : {P : Type 0} (stands_for : P → Record → Type 0) (Same : P → P → Type 0) (more : Record → Record) (items slice changed : List P) (len : ℕ) → slice ≡ items → length items ≡ len
@@ -102,9 +105,13 @@ same-then Same onward parts between after as_many first second =
 
 -- the first part was started, all were called, and the first was finished
 pub is-ran :
-    {P : Type 0} (stands_for : P → Record → Type 0) (Same : P → P → Type 0) → ((one other third : P) → Same one other → Same other third → Same one third) → (is_serial : Bool) (run : Run) (ran : Ran P) (parts started between : List P) (answer registered : ℕ)
-    → run.mask ≡ mask_of answer registered → AreAlways ran.mask → 0 < length parts → ChangesFirst stands_for Same (λ (h : Record). initialized h answer registered) parts started
-    → HaveServed stands_for Same is_serial run ran.cause ran.history ran.text.items started between → ChangesFirst stands_for Same (finished_by answer) between ran.parts.items → IsRan stands_for Same is_serial run parts ran
+    {P : Type 0} (stands_for : P → Record → Type 0) (Same : P → P → Type 0)
+    → ((one other third : P) → Same one other → Same other third → Same one third)
+    → (is_serial : Bool) (run : Run) (ran : Ran P) (parts started between : List P) (answer registered : ℕ)
+    → run.mask ≡ mask_of answer registered → AreAlways ran.mask → 0 < length parts
+    → ChangesFirst stands_for Same (λ (h : Record). initialized h answer registered) parts started
+    → HaveServed stands_for Same is_serial run ran.cause ran.history ran.text.items started between
+    → ChangesFirst stands_for Same (finished_by answer) between ran.parts.items → IsRan stands_for Same is_serial run parts ran
 is-ran {P} stands_for Same onward is_serial run ran parts started between answer registered mask_is always some start served last = record {
   to = served.to;
   parts = record {
@@ -115,31 +122,40 @@ is-ran {P} stands_for Same onward is_serial run ran parts started between answer
     unheard = served.unheard;
     are_unheard = served.are_unheard;
     all_heard = served.all_heard;
-    first = λ d h stands. last.first d _ (served.each 0 d (initialized h answer registered) (omega (arith, some, start.as_many)) (start.first d h stands));
+    first = λ d h stands. last.first d _ (served.each 0 d (initialized h answer registered) (omega (arith, some, start.as_many))
+        (start.first d h stands));
     each = λ k past below d h stands.
-        subst (λ (part : P). stands_for part (called_for (heard_of run ran.history k) (served.unheard k) h)) (sym (last.others_are k d past))
-        (served.each k d h (omega (arith, below, start.as_many)) (subst (λ (part : P). stands_for part h) (sym (start.others_are k d past)) stands));
+        subst (λ (part : P). stands_for part (called_for (heard_of run ran.history k) (served.unheard k) h))
+        (sym (last.others_are k d past))
+        (served.each k d h (omega (arith, below, start.as_many))
+        (subst (λ (part : P). stands_for part h) (sym (start.others_are k d past)) stands));
   };
-  same = same-then Same onward parts between ran.parts.items (served.as_many ∙ start.as_many) (same-then Same onward parts started between start.as_many start.same served.same) last.same;
+  same = same-then Same onward parts between ran.parts.items (served.as_many ∙ start.as_many)
+      (same-then Same onward parts started between start.as_many start.same served.same) last.same;
   always = always;
   text = served.text_is;
 }
 
-module _ {P : Type 0} (stands_for : P → Record → Type 0) (parts : List P) (t : ℕ) (found part : P) (is : found ≡ slice_index_or parts t found) (within : t < length parts) where
+module _ {P : Type 0} (stands_for : P → Record → Type 0) (parts : List P) (t : ℕ) (found part : P)
+    (is : found ≡ slice_index_or parts t found) (within : t < length parts) where
   -- the part of the thread was told of an item, and the others are as they were
-  pub told-at : (item : Item) → ((h : Record) → stands_for found h → stands_for part (told h item)) → (k : ℕ) → k < length parts → Becomes stands_for parts (slice_set parts t part) k (told_on t k item)
+  pub told-at : (item : Item) → ((h : Record) → stands_for found h → stands_for part (told h item)) → (k : ℕ) → k < length parts
+      → Becomes stands_for parts (slice_set parts t part) k (told_on t k item)
   told-at item keeps k below d h stands = elim (eqb_tells t k) [
-    | inl same ↦ rw (same.0, ← same.1, get_or-set_same parts t part d within) (keeps h (rw (← same.1, get_or_default parts t d found within, ← is) at stands))
+    | inl same ↦ rw (same.0, ← same.1, get_or-set_same parts t part d within)
+        (keeps h (rw (← same.1, get_or_default parts t d found within, ← is) at stands))
     | inr different ↦ rw (different.0, get_or-set_other parts t k part d (λ same. different.1 (sym same))) stands
   ]
 
 -- the part of the thread is the one that it was, and so are the others
-pub same-at : {P : Type 0} (Same : P → P → Type 0) → ((part : P) → Same part part) → (parts : List P) (t : ℕ) (found part : P) → found ≡ slice_index_or parts t found → t < length parts → Same found part
+pub same-at : {P : Type 0} (Same : P → P → Type 0) → ((part : P) → Same part part) → (parts : List P) (t : ℕ) (found part : P)
+    → found ≡ slice_index_or parts t found → t < length parts → Same found part
     → AreSame Same parts (slice_set parts t part)
 same-at {P} Same itself parts t found part is within same = record { each = each }
   where
     each : (k : ℕ) (d : P) → k < length parts → Same (slice_index_or parts k d) (slice_index_or (slice_set parts t part) k d)
     each k d below = elim (eqb_tells t k) [
-      | inl equal ↦ rw (← equal.1, get_or-set_same parts t part d within) (subst (λ p. Same p part) (is ∙ get_or_default parts t found d within) same)
+      | inl equal ↦ rw (← equal.1, get_or-set_same parts t part d within)
+          (subst (λ p. Same p part) (is ∙ get_or_default parts t found d within) same)
       | inr different ↦ rw (get_or-set_other parts t k part d (λ equal. different.1 (sym equal))) (itself (slice_index_or parts k d))
     ]

@@ -53,7 +53,8 @@ nobody-back run S t event stores nobody happens waits =
 -- a thread inside a callback that is registered still is inside one after its stores
 waits-put_all : (run : Run) (S : State) (t : ℕ) (e : Event) (made : ℕ) (stores : List Stored) → Inside run S t e made → IsSome (pending_at (put_all S t stores) t)
 waits-put_all run S t e made [] inside = rw inside.pending refl
-waits-put_all run S t e made (store ∷ rest) inside = waits-put_all run (put S t store.target store.word) t e (made + 1) rest (inside-put run S t e made store.target store.word inside)
+waits-put_all run S t e made (store ∷ rest) inside =
+    waits-put_all run (put S t store.target store.word) t e (made + 1) rest (inside-put run S t e made store.target store.word inside)
 
 -- a turn with no event leaves the callbacks alone
 pub same-pending : (S after : State) (t : ℕ) (o : Outcome) → Leaves S t after o → inside_after o t ≡ None → after.pending ≡ S.pending
@@ -80,7 +81,10 @@ stops-here run from H stands = record { serial = HasRun-serial stands.has_run; o
 stored_of-few : (snapshot : Snapshot) (store : Option Store) → length (stored_of snapshot store) ≤ 1
 stored_of-few snapshot None = omega arith
 stored_of-few snapshot (Some store) =
-    elim (target_of snapshot store.place) as (λ found. length (stored store.word found) ≤ 1) [ None ↦ omega arith | Some found ↦ omega arith ]
+    elim (target_of snapshot store.place) as (λ found. length (stored store.word found) ≤ 1) [
+      | None ↦ omega arith
+      | Some found ↦ omega arith
+    ]
 
 stores-few : (reply : Reply) (snapshot : Snapshot) → length (stores_of reply snapshot) ≤ 3
 stores-few reply snapshot = omega (arith, length-append {A = Stored}, stored_of-few)
@@ -89,9 +93,11 @@ stores-few reply snapshot = omega (arith, length-append {A = Stored}, stored_of-
 caused-by : (run : Run) (S : State) (halt : Option Halt) (value : Option ℤ) → S.halt ≡ halt → whole_value S.world ≡ value
     → enabled_among S 0 run.threads ≡ None → none_pending S ≡ true → cause_by_halt run S halt ≡ None → ⊥
 caused-by run S (Some halt) value halted whole none nobody no_cause = cc
-caused-by run S None (Some value) halted whole none nobody no_cause = let found : cause_of_whole run S (Some value) ≡ None = rw whole at no_cause in cc
+caused-by run S None (Some value) halted whole none nobody no_cause =
+    let found : cause_of_whole run S (Some value) ≡ None = rw whole at no_cause in cc
 caused-by run S None None halted whole none nobody no_cause =
-    let stuck : is_stuck run S ≡ true = and_from _ _ (and_from _ _ (and_from _ _ (ap is_none none) nobody) (ap is_none halted)) (ap is_none whole) in
+    let stuck : is_stuck run S ≡ true =
+    and_from _ _ (and_from _ _ (and_from _ _ (ap is_none none) nobody) (ap is_none halted)) (ap is_none whole) in
     let deadlock : cause_of_whole run S None ≡ Some cause.Deadlock = rw stuck in
     let found : cause_of_whole run S None ≡ None = rw whole at no_cause in cc
 
@@ -120,7 +126,8 @@ module _ (run : Run) (from : ℕ) (H K : List Entry) (stands : StandsAt run from
   serves-to serves = record { unheard = None; is_unheard = stands.nobody; serves = serves }
 
   pub serves-all : ServesTo stands_for run parts H others K → Serves stands_for run parts H None others K
-  serves-all served = subst (λ unheard. Serves stands_for run parts H unheard others K) (unheard-none run from K served.unheard stands served.is_unheard) served.serves
+  serves-all served = subst (λ unheard. Serves stands_for run parts H unheard others K)
+      (unheard-none run from K served.unheard stands served.is_unheard) served.serves
 
 -- after a turn, with the calls and the return of its event
 pub record Visited {P : Type 0} (stands_for : P → Record → Type 0) (run : Run) (H : List Entry) (t : ℕ) (parts others : List P) (longer : List Entry) : Type 0 where
@@ -155,7 +162,8 @@ module _ (run : Run) (from : ℕ) (H : List Entry) (t : ℕ) (stands : StandsAt 
   module _ {P : Type 0} (stands_for : P → Record → Type 0) (parts others : List P) where
     -- where the run has come to this state
     visited-at : (next : State) (longer : List Entry) → HasRun run longer (record { state = next; next = t + 1; inside = None }) → none_pending next ≡ true
-        → HearsOwn run longer → (HearsSilent run longer → StoresNothing longer) → Serves stands_for run parts H None others longer → next.turns ≡ now.turns + 1 → Visited stands_for run H t parts others longer
+        → HearsOwn run longer → (HearsSilent run longer → StoresNothing longer) → Serves stands_for run parts H None others longer
+        → next.turns ≡ now.turns + 1 → Visited stands_for run H t parts others longer
     visited-at next longer has nobody own silent serves turned =
         let there : after run longer ≡ next = HasRun-after has in record {
           serves = serves;
@@ -219,7 +227,8 @@ module _ (run : Run) (from : ℕ) (H : List Entry) (t : ℕ) (stands : StandsAt 
         record { seq = length H; thread = t; call = call_of between.world t e; snapshot = snap_of between.world t e; stores = stores }
 
     -- after the answer of the thread's part
-    pub visited-said : (seq : ℕ) → seq ≡ length H → (longer : List Entry) → Answers stands_for seq t call snapshot parts (H ++ go_at t ∷ []) others longer
+    pub visited-said : (seq : ℕ) → seq ≡ length H → (longer : List Entry)
+        → Answers stands_for seq t call snapshot parts (H ++ go_at t ∷ []) others longer
         → Visited stands_for run H t parts others longer
     visited-said seq seq_is longer said_so =
         let answers = rw (seq_is, ← said.call_is, ← said.snapshot_is) at said_so in
@@ -233,7 +242,8 @@ module _ (run : Run) (from : ℕ) (H : List Entry) (t : ℕ) (stands : StandsAt 
         subst (λ K. Visited stands_for run H t parts others K) (sym history)
         (visited-event stands_for parts others e said.happens stores (stores-few answers.reply (snap_of between.world t e))
         (may-store run H t e stands.some said.happens answers.reply said.registered) waits
-        (own-told run H whole t (item_with stores) refl under more stands.own) (told-silent run H whole t (item_with stores) refl more under)
+        (own-told run H whole t (item_with stores) refl under more stands.own)
+        (told-silent run H whole t (item_with stores) refl more under)
         (serves-told stands_for run parts others H whole t (item_with stores) refl more answers.as_many answers.each))
 
     -- where the part found no memory, nothing more was heard, and the history ends inside the callback
@@ -273,16 +283,20 @@ module _ (book next : BookView) (from t : ℕ) (stands : StandsAt book.run from 
 
 -- what a run that has stopped has come to
 pub have-served : {P : Type 0} (stands_for : P → Record → Type 0) (Same : P → P → Type 0) (run : Run) (next : ℕ) (reason : Cause) (H : List Entry) (text : List ℕ) (parts others : List P)
-    → ServesTo stands_for run parts [] others H → AreSame Same parts others → StopsAt run H → (reason ≢ cause.Memory → StandsAt run next H) → (reason ≢ cause.Memory → first_enabled run (after run H) next ≡ None)
-    → (reason ≢ cause.Memory → cause_of run H ≡ Some reason) → (reason ≡ cause.Memory → H ≢ []) → text ≡ (after run H).world.store.text → HaveServed stands_for Same true run reason H text parts others
+    → ServesTo stands_for run parts [] others H → AreSame Same parts others → StopsAt run H → (reason ≢ cause.Memory → StandsAt run next H)
+    → (reason ≢ cause.Memory → first_enabled run (after run H) next ≡ None)
+    → (reason ≢ cause.Memory → cause_of run H ≡ Some reason) → (reason ≡ cause.Memory → H ≢ []) → text ≡ (after run H).world.store.text
+    → HaveServed stands_for Same true run reason H text parts others
 have-served {P} stands_for Same run next reason H text parts others serves same stops stands over caused begun printed =
-    let heard : reason ≢ cause.Memory → serves.unheard ≡ None = λ found. unheard-none run next H serves.unheard (stands found) serves.is_unheard in record {
+    let heard : reason ≢ cause.Memory → serves.unheard ≡ None =
+    λ found. unheard-none run next H serves.unheard (stands found) serves.is_unheard in record {
       to = record {
         legal = stops.serial.legal;
         ends = caused;
         own = stops.own;
         in_order = λ is. stops.serial;
-        whole = λ is found silent. sym (serial-whole run H (HasRun-whole (stands found).has_run (over found)) ((stands found).silent silent));
+        whole =
+            λ is found silent. sym (serial-whole run H (HasRun-whole (stands found).has_run (over found)) ((stands found).silent silent));
         begun = begun;
       };
       text_is = printed;
@@ -290,7 +304,8 @@ have-served {P} stands_for Same run next reason H text parts others serves same 
       unheard = is_of serves.unheard;
       are_unheard = record { one = serves.unheard; is_unheard = serves.is_unheard; all_heard = heard; unheard_is = λ k. refl };
       all_heard = λ found k below. ap (λ (unheard : Option ℕ). is_of unheard k) (heard found);
-      each = λ k d h below stood. serves.serves.each k d h below (subst (λ (h : Record). stands_for (slice_index_or parts k d) h) (sym (served-nil h)) stood);
+      each = λ k d h below stood. serves.serves.each k d h below
+          (subst (λ (h : Record). stands_for (slice_index_or parts k d) h) (sym (served-nil h)) stood);
       same = same;
     }
 

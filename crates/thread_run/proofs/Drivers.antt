@@ -37,7 +37,8 @@ module _ {P : Type 0} (stands_for : P → Record → Type 0) (Same : P → P →
   -- a driver before its first visit
   driver-first : ((part : P) → Same part part) → (t : ℕ) (first_part part : P) (pass : PassView) → pass ≡ fresh_pass t → part ≡ first_part → IsDriver stands_for Same run t first_part pass part
   driver-first itself t first_part part pass fresh same =
-      let outside : pending_at (first run) t ≡ None = at-replicate (λ (callback : Option Callback). callback ≡ None) run.threads t None refl in
+      let outside : pending_at (first run) t ≡ None =
+      at-replicate (λ (callback : Option Callback). callback ≡ None) run.threads t None refl in
       let driven : IsDriven stands_for Same run first_part (fresh_pass t) first_part = record {
         unheard = false;
         left = outside;
@@ -99,7 +100,8 @@ hears-own run passes history closed k past =
     ap (λ history. heard_of run history k) closed.entries ∙ heard-others run [] (entries_of closed.all) k (holds-others k closed.all closed.own others)
 
 -- the cause that is known is the history's, where no pass has ended the run for want of memory
-cause-known : (ended : Bool) (cause : Cause) (found : Option Cause) → Some cause ≡ (if ended then Some causes.Memory else found) → cause ≢ causes.Memory → found ≡ Some cause
+cause-known : (ended : Bool) (cause : Cause) (found : Option Cause) → Some cause ≡ (if ended then Some causes.Memory else found)
+    → cause ≢ causes.Memory → found ≡ Some cause
 cause-known true cause found is other = let same : cause ≡ causes.Memory = cc in absurd (other same)
 cause-known false cause found is other = sym is
 
@@ -136,7 +138,8 @@ module _ {P : Type 0} (stands_for : P → Record → Type 0) (Same : P → P →
       let begins = is_closed.begins k none below in
       let seen = (get_or passes k none).seen in
       let more = entries_of begins.rest in
-      let whole : closed.history ≡ entries_of seen ++ more = is_closed.entries ∙ ap entries_of begins.whole ∙ entries-append seen begins.rest in
+      let whole : closed.history ≡ entries_of seen ++ more =
+      is_closed.entries ∙ ap entries_of begins.whole ∙ entries-append seen begins.rest in
       let not_by = holds-others k begins.rest (own-back seen begins.rest (subst AreOwn begins.whole is_closed.own)) begins.others in
       let same : heard_of run closed.history k ≡ heard_of run (entries_of seen) k =
       ap (λ history. heard_of run history k) whole ∙ heard-others run (entries_of seen) more k not_by in record {
@@ -154,7 +157,8 @@ module _ {P : Type 0} (stands_for : P → Record → Type 0) (Same : P → P →
 
   pub have-served : HasServed stands_for Same run closed parts others
   have-served cause known begun =
-      let other : cause ≢ causes.Memory → closed.cause ≢ Some causes.Memory = λ found is. let same : Some cause ≡ Some causes.Memory = sym (known found) ∙ is in found cc in
+      let other : cause ≢ causes.Memory → closed.cause ≢ Some causes.Memory =
+      λ found is. let same : Some cause ≡ Some causes.Memory = sym (known found) ∙ is in found cc in
       record {
         to = record {
           legal = is_closed.legal;

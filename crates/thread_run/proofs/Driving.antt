@@ -104,7 +104,9 @@ hold-entries before later between entries hold =
 pub left-others : (run : Run) (history more : List Entry) (t : ℕ) (unheard : Bool) → NotBy t more → LeftAt run history t unheard → LeftAt run (history ++ more) t unheard
 left-others run history more t true none left =
     record { seq = left.seq; call = left.call; snapshot = left.snapshot; owes = owes-still run history more t left.seq left.call left.snapshot left.owes none }
-left-others run history more t false none left = ap (λ (S : State). pending_at S t) (after-append run (first run) history more) ∙ entries-others run (after run history) t more none ∙ left
+left-others run history more t false none left =
+    ap (λ (S : State). pending_at S t) (after-append run (first run) history more) ∙ entries-others run (after run history) t more none
+    ∙ left
 
 pub heard-others : (run : Run) (history more : List Entry) (t : ℕ) → NotBy t more → heard_of run (history ++ more) t ≡ heard_of run history t
 heard-others run history more t none = more-without run (first run) 0 t history more (back-others t more none)
@@ -122,14 +124,19 @@ module _ {P : Type 0} (stands_for : P → Record → Type 0) (Same : P → P →
   Inside pass part = IsInside stands_for Same run whose pass part
 
   -- a hold without an entry
-  driven-grown : (pass later : PassView) (part : P) → AddsHold pass later [] → (pass.ended ≡ true → later.ended ≡ true) → Driven pass part → Driven later part
+  driven-grown : (pass later : PassView) (part : P) → AddsHold pass later [] → (pass.ended ≡ true → later.ended ≡ true) → Driven pass part
+      → Driven later part
   driven-grown pass later part grows ended driven =
       let more = entries_of grows.between in
-      let seen : entries_of later.seen ≡ entries_of pass.seen ++ more = hold-entries pass later grows.between [] grows.is_hold ∙ append-nil _ in record {
+      let seen : entries_of later.seen ≡ entries_of pass.seen ++ more =
+      hold-entries pass later grows.between [] grows.is_hold ∙ append-nil _ in record {
         unheard = driven.unheard;
-        left = rw (seen, grows.is_hold.thread) (left-others run (entries_of pass.seen) more pass.thread driven.unheard grows.is_hold.not_by driven.left);
+        left =
+            rw (seen, grows.is_hold.thread) (left-others run
+            (entries_of pass.seen) more pass.thread driven.unheard grows.is_hold.not_by driven.left);
         over = λ unheard. ended (driven.over unheard);
-        hears = λ h stands. rw (seen, grows.is_hold.thread, heard-others run (entries_of pass.seen) more pass.thread grows.is_hold.not_by) (driven.hears h stands);
+        hears = λ h stands. rw (seen, grows.is_hold.thread, heard-others run (entries_of pass.seen) more pass.thread grows.is_hold.not_by)
+            (driven.hears h stands);
         same_is = driven.same_is;
       }
 
@@ -145,14 +152,16 @@ module _ {P : Type 0} (stands_for : P → Record → Type 0) (Same : P → P →
       record { unheard = false; left = outside; over = λ same. absurd (true≢false (sym same)); hears = inside.hears; same_is = inside.same_is }
 
   -- a visit that tells of no event
-  pub driven-quiet : (pass later : PassView) (part : P) (step : Step) → pass.thread < run.threads → pass.ended ≡ false → VisitsAfterOthers run pass step later
+  pub driven-quiet : (pass later : PassView) (part : P) (step : Step) → pass.thread < run.threads → pass.ended ≡ false
+      → VisitsAfterOthers run pass step later
       → ((seq : ℕ) (call : Call) (snapshot : Snapshot) → step ≡ Told seq call snapshot → ⊥) → Driven pass part → Driven later part
   driven-quiet pass later part step below ended goes none driven =
       let book = book_after run (pass.seen ++ goes.between) goes.ended in
       let front = entries_of pass.seen ++ entries_of goes.between in
       let t = pass.thread in
       let whole : book.history ≡ front = entries-append pass.seen goes.between in
-      let outside : pending_at (after run book.history) t ≡ None = rw whole (left-others run (entries_of pass.seen) (entries_of goes.between) t false goes.is_hold.not_by (open-of pass part ended driven).0) in
+      let outside : pending_at (after run book.history) t ≡ None = rw whole (left-others run (entries_of pass.seen)
+      (entries_of goes.between) t false goes.is_hold.not_by (open-of pass part ended driven).0) in
       let calm = calm-visit book t below outside (λ seq call snapshot told. none seq call snapshot (goes.step_is ∙ told)) in
       let seen : entries_of later.seen ≡ book.history ++ (visit book t).added = hold-entries pass later goes.between (visit book t).added goes.is_hold ∙ ap (λ front. front ++ (visit book t).added) (sym whole) in
       let inside = (open-of pass part ended driven).1 in
@@ -169,7 +178,8 @@ module _ {P : Type 0} (stands_for : P → Record → Type 0) (Same : P → P →
       let seen : entries_of later.seen ≡ entries_of pass.seen ++ more =
       hold-entries pass later goes.between (visit book t).added goes.is_hold ∙ ap (λ added. (entries_of pass.seen ++ entries_of goes.between) ++ added) (told-added book t seq call snapshot (sym goes.step_is)) ∙ append_assoc (entries_of pass.seen) (entries_of goes.between) (go_at t ∷ []) in
       let same : heard_of run (entries_of later.seen) later.thread ≡ heard_of run (entries_of pass.seen) t =
-      rw (seen, goes.is_hold.thread) (more-without run (first run) 0 t (entries_of pass.seen) more (back-append t (entries_of goes.between) (go_at t ∷ []) refl ∙ back-others t (entries_of goes.between) goes.is_hold.not_by)) in
+      rw (seen, goes.is_hold.thread) (more-without run (first run) 0 t (entries_of pass.seen) more
+      (back-append t (entries_of goes.between) (go_at t ∷ []) refl ∙ back-others t (entries_of goes.between) goes.is_hold.not_by)) in
       record { hears = λ h stands. rw same (inside.hears h stands); same_is = inside.same_is }
 
   -- its callback was answered
@@ -211,7 +221,8 @@ module _ {P : Type 0} (stands_for : P → Record → Type 0) (Same : P → P →
           ap (λ (S : State). pending_at S t) (after-append run (first run) history (event_reply t stores) ∙ after-append run (after run history) (puts_at t stores) (back_at t ∷ [])) ∙ back-outside S t
 
   -- its part found no memory
-  pub driven-unheard : (pass later : PassView) (part next : P) (seq : ℕ) (call : Call) (snapshot : Snapshot) → Owes run (entries_of pass.seen) pass.thread seq call snapshot → AddsHold pass later [] → later.ended ≡ true
+  pub driven-unheard : (pass later : PassView) (part next : P) (seq : ℕ) (call : Call) (snapshot : Snapshot)
+      → Owes run (entries_of pass.seen) pass.thread seq call snapshot → AddsHold pass later [] → later.ended ≡ true
       → ((h : Record) → stands_for part h → stands_for next (one_unheard h)) → ((first second third : P) → Same first second → Same second third → Same first third) → Same part next → Inside pass part → Driven later next
   driven-unheard pass later part next seq call snapshot owes grows ended none onward kept inside =
       let t = pass.thread in
@@ -232,7 +243,8 @@ module _ {P : Type 0} (stands_for : P → Record → Type 0) (Same : P → P →
 
   -- a visit, and then no memory
   driven-ended : (pass later last : PassView) (part : P) → AddsHold pass later [] → later.ended ≡ pass.ended → AddsHold later last [] → last.ended ≡ true → Driven pass part → Driven last part
-  driven-ended pass later last part one same two ended driven = driven-grown later last part two (λ over. ended) (driven-grown pass later part one (λ over. same ∙ over) driven)
+  driven-ended pass later last part one same two ended driven =
+      driven-grown later last part two (λ over. ended) (driven-grown pass later part one (λ over. same ∙ over) driven)
 
   -- a visit of a pass
   pub come-gone : {E : Type 0} (pass later : PassView) (part : P) (result : Result Step E) → pass.thread < run.threads
@@ -248,7 +260,8 @@ module _ {P : Type 0} (stands_for : P → Record → Type 0) (Same : P → P →
   -- its callback was answered, and then it visited again
   pub come-answered :
       {E : Type 0} (pass later : PassView) (part next : P) (seq : ℕ) (call : Call) (snapshot : Snapshot) (reply : Reply) (result : Result Step E) → Legal run (entries_of pass.seen) → pass.thread < run.threads → pass.ended ≡ false
-      → Owes run (entries_of pass.seen) pass.thread seq call snapshot → IfOk result (λ step. AnswersThen pass (event_reply pass.thread (stores_of reply snapshot)) (λ answered. VisitsAfterOthers run answered step later))
+      → Owes run (entries_of pass.seen) pass.thread seq call snapshot
+      → IfOk result (λ step. AnswersThen pass (event_reply pass.thread (stores_of reply snapshot)) (λ answered. VisitsAfterOthers run answered step later))
       → OnErr result (AnswersThen pass (event_reply pass.thread (stores_of reply snapshot)) (λ answered. AddsHold answered later [])) → later.ended ≡ pass.ended
       → ((h : Record) → stands_for part h → stands_for next (told h (item_of seq pass.thread call snapshot reply))) → ((first second third : P) → Same first second → Same second third → Same first third) → Same part next → Inside pass part → HasCome stands_for Same run whose later next result
   come-answered pass later part next seq call snapshot reply (Ok step) legal below open_now owes goes memory same tells onward kept inside =

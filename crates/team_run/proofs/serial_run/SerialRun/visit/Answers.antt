@@ -1,4 +1,4 @@
-use Rattle.std.proofs.Common.{◌≡◌, ◌∙◌, refl, sym, ap, subst, arith, inl, inr, ◌∷◌, []}
+use Rattle.std.proofs.Common.{◌≡◌, ◌<◌, ◌∙◌, refl, sym, ap, subst, arith, inl, inr, ◌∷◌, []}
 use Rattle.omp_model.{specs.Storing.go_at, proofs.Recording.first_enabled-enabled, proofs.Recording.first_enabled-below}
 use Rattle.step_book.{specs.BookView.BookView, specs.BookView.state_of, specs.BookView.with_entries, proofs.Telling.told-step, proofs.Telling.quiet-step, proofs.Telling.ended-step, proofs.Telling.not_yet-step}
 use Rattle.team_run.proofs.Visiting.{QuietVisit, Visited, alone-visit, stops-here, stops-inside, untold-visit, visited-said, serves-said, serves-to, from_either, from_ok}
@@ -15,10 +15,14 @@ pub returns-in_err-step-clause-stops : goal.returns-in_err-step-clause-stops
 returns-in_err-step-clause-stops g c = rw c.in_err-step.ensures.memory (stops-here _ _ _ c.requires.stands)
 
 pub overflow_add-self : goal.overflow_add-self
-overflow_add-self g c = omega (arith, first_enabled-below c.args.self.now.book.run (state_of c.args.self.now.book) _ _ c.requires.stands.within c.requires.turn, c.requires.stands.few)
+overflow_add-self g c =
+    let below : c.args.ready.thread < c.args.self.now.book.run.threads =
+    first_enabled-below c.args.self.now.book.run _ _ _ c.requires.stands.within c.requires.turn in omega (arith, c.requires.stands.few)
 
 pub serve-requires-clause-part : goal.serve-requires-clause-part
-serve-requires-clause-part g c κs within = omega (arith, first_enabled-below c.args.self.now.book.run (state_of c.args.self.now.book) _ _ c.requires.stands.within c.requires.turn, c.requires.parts)
+serve-requires-clause-part g c κs within =
+    let below : c.args.ready.thread < c.args.self.now.book.run.threads =
+    first_enabled-below c.args.self.now.book.run _ _ _ c.requires.stands.within c.requires.turn in omega (arith, c.requires.parts)
 
 pub returns-in-Told : goal.returns-in-Told
 returns-in-Told g c =
