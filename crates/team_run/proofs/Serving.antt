@@ -89,7 +89,8 @@ written-back new items len same all = ap (λ more. take len (new ++ more)) (drop
     ∙ ap (take len) (append-nil new) ∙ take_all len new (omega (arith, same, all))
 
 -- what a slice of a whole vector came to, said of the vector
-pub changes-vector : {P : Type 0} (stands_for : P → Record → Type 0) (Same : P → P → Type 0) (more : Record → Record) (items slice changed : List P) (len : ℕ) → slice ≡ items → length items ≡ len
+pub changes-vector : {P : Type 0} (stands_for : P → Record → Type 0) (Same : P → P → Type 0) (more : Record → Record)
+    (items slice changed : List P) (len : ℕ) → slice ≡ items → length items ≡ len
     → ChangesFirst stands_for Same more slice changed → ChangesFirst stands_for Same more items (take len (changed ++ drop (length changed) items))
 changes-vector {P} stands_for Same more items slice changed len whole full change =
     let of_items : ChangesFirst stands_for Same more items changed = subst (λ (slice : List P). ChangesFirst stands_for Same more slice changed) whole change in

@@ -282,7 +282,8 @@ module _ (book next : BookView) (from t : ℕ) (stands : StandsAt book.run from 
   }
 
 -- what a run that has stopped has come to
-pub have-served : {P : Type 0} (stands_for : P → Record → Type 0) (Same : P → P → Type 0) (run : Run) (next : ℕ) (reason : Cause) (H : List Entry) (text : List ℕ) (parts others : List P)
+pub have-served : {P : Type 0} (stands_for : P → Record → Type 0) (Same : P → P → Type 0) (run : Run) (next : ℕ)
+    (reason : Cause) (H : List Entry) (text : List ℕ) (parts others : List P)
     → ServesTo stands_for run parts [] others H → AreSame Same parts others → StopsAt run H → (reason ≢ cause.Memory → StandsAt run next H)
     → (reason ≢ cause.Memory → first_enabled run (after run H) next ≡ None)
     → (reason ≢ cause.Memory → cause_of run H ≡ Some reason) → (reason ≡ cause.Memory → H ≢ []) → text ≡ (after run H).world.store.text

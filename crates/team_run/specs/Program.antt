@@ -14,8 +14,8 @@ abbrev pub run_of : {P : Type 0} → TreeView → ℕ → ℕ → Ran P → Run
 run_of program threads steps ran = run_of_program program ran.mask threads steps
 
 -- A run, serially or by threads, that ended in this cause with this history: a legal one that ends in its cause, and of which nothing is
--- heard on a thread that the run doesn't have. A serial run's is in the serial order, and where nothing is stored it is the one that there is.
--- Where memory was wanting it has an entry
+-- heard on a thread that the run doesn't have. A serial run's is in the serial order, and where nothing is stored it is the one that there
+-- is. Where memory was wanting it has an entry
 pub record RunsTo (run : Run) (is_serial : Bool) (cause : Cause) (history : List Entry) : Type 0 where
   pub legal : Legal run history
   pub ends : cause ≢ causes.Memory → cause_of run history ≡ Some cause

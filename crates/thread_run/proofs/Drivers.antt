@@ -22,7 +22,8 @@ module _ {L : Type 0} (all yielded behind rest : List L) (one : L) (whole : yiel
   item-below = omega (arith, ap (λ (all : List L). length all) (sym whole ∙ ap (λ more. yielded ++ more) next), length-append yielded (one ∷ rest))
 
   -- one more has come back
-  pub finish-more : {P : Type 0} (stands_for : P → Record → Type 0) (Same : P → P → Type 0) (run : Run) (is : ℕ → P → L → Type 0) (first : List P) (passes : List PassView) (parts : List P) (pass : PassView) (part : P)
+  pub finish-more : {P : Type 0} (stands_for : P → Record → Type 0) (Same : P → P → Type 0) (run : Run)
+      (is : ℕ → P → L → Type 0) (first : List P) (passes : List PassView) (parts : List P) (pass : PassView) (part : P)
       → length passes ≡ length yielded → length parts ≡ length yielded → AreFor is first all → AreDrivers stands_for Same run first passes parts
       → ((t : ℕ) (whose : P) → is t whose one → IsDriver stands_for Same run t whose pass part) → AreDrivers stands_for Same run first (passes ++ pass ∷ []) (parts ++ part ∷ [])
   finish-more stands_for Same run is first passes parts pass part passed parted are there goes k d e f below = elim (cases_eq k (length yielded)) [

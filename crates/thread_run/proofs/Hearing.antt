@@ -101,7 +101,8 @@ abbrev head-of : Run → State → ℕ → ℕ → Entry → List Entry → List
 head-of run S position t entry rest = on_thread t (heard_at run S position entry.thread entry.what rest)
 
 heard-first : (run : Run) (S : State) (position t : ℕ) (entry : Entry) (rest : List Entry)
-    → heard_on run S position (entry ∷ rest) t ≡ head-of run S position t entry rest ++ heard_on run (entered run S entry) (position + 1) rest t
+    → heard_on run S position (entry ∷ rest) t
+    ≡ head-of run S position t entry rest ++ heard_on run (entered run S entry) (position + 1) rest t
 heard-first run S position t entry rest = filter-append (λ (item : Item). item.thread == t)
     (heard_at run S position entry.thread entry.what rest) (heard_from run (entered run S entry) (position + 1) rest)
 
@@ -129,7 +130,10 @@ head-front run S position t entry rest more own = elim (eqb_tells entry.thread t
 pub more-without : (run : Run) (S : State) (position t : ℕ) (entries more : List Entry) → has_back t more ≡ false → heard_on run S position (entries ++ more) t ≡ heard_on run S position entries t
 more-without run S position t [] more none = without-back run S position t more none
 more-without run S position t (entry ∷ rest) more none =
-    rw (heard-first run S position t entry (rest ++ more), heard-first run S position t entry rest, head-front run S position t entry rest more (λ same. at-front run S position t entry.what rest more (λ event go is. back-append t rest more none)), more-without run (entered run S entry) (position + 1) t rest more none) refl
+    let own : entry.thread ≡ t → heard_at run S position t entry.what (rest ++ more) ≡ heard_at run S position t entry.what rest =
+    λ same. at-front run S position t entry.what rest more (λ event go is. back-append t rest more none) in
+    rw (heard-first run S position t entry (rest ++ more), heard-first run S position t entry rest)
+    (rw (head-front run S position t entry rest more own, more-without run (entered run S entry) (position + 1) t rest more none))
 
 -- A thread that is inside a callback leaves it by its Back alone.
 
@@ -190,10 +194,12 @@ heard-split run S position t (entry ∷ rest) more within outside =
     let own : entry.thread ≡ t → heard_at run S position t entry.what (rest ++ more) ≡ heard_at run S position t entry.what rest =
     λ same. at-front run S position t entry.what rest more (λ event go is.
     let inside = goes-inside run S t event within is in
-    let there = left-by-back run (turn run S t).state t rest inside (rw (same, go) at outside) in back-front t rest more there ∙ sym there) in
+    let there = left-by-back run (turn run S t).state t rest inside (rw (same, go) at outside) in
+    back-front t rest more there ∙ sym there) in
     let place : position + 1 + length rest ≡ position + length (entry ∷ rest) = omega arith in
-    rw (heard-first run S position t entry (rest ++ more), heard-first run S position t entry rest, head-front run S position t entry rest more own)
-    (rw (heard-split run next (position + 1) t rest more (rw (does-many run S entry.thread entry.what) within) outside, ← place)
+    let many : t < length next.pending = rw (does-many run S entry.thread entry.what) within in
+    rw (heard-first run S position t entry (rest ++ more), heard-first run S position t entry rest)
+    (rw (head-front run S position t entry rest more own, heard-split run next (position + 1) t rest more many outside, ← place)
     (sym (append_assoc (head-of run S position t entry rest) (heard_on run next (position + 1) rest t)
     (heard_on run (after_from run next rest) (position + 1 + length rest) more t))))
 
@@ -221,7 +227,8 @@ reply-stores t (entry ∷ since) stores none = rw (ne_eqb entry.thread t none.0)
 -- the thread hears its event once it has answered
 pub answered :
     (run : Run) (S : State) (position t : ℕ) (event : Event) (since : List Entry) (stores : List Stored) → (turn run S t).outcome ≡ outcome.Happens event → is_registered run.mask (callback_of event) ≡ true → NotBy t since
-    → heard_on run S position (go_at t ∷ (since ++ event_reply t stores)) t ≡ item_with position t (turn run S t).state.world event stores ∷ []
+    → heard_on run S position (go_at t ∷ (since ++ event_reply t stores)) t
+    ≡ item_with position t (turn run S t).state.world event stores ∷ []
 answered run S position t event since stores happens registered none =
     let next = (turn run S t).state in
     let rest = since ++ event_reply t stores in

@@ -27,7 +27,8 @@ returns g c =
     record {
       ran =
           rw (c.close-history.ensures.history, ← over)
-          (is-ran stands_for Same onward true ended.book.run _ c.args.parts.items _ ended.parts.items start.result.answer start.result.registered
+          (is-ran stands_for Same onward true ended.book.run _ c.args.parts.items _ ended.parts.items
+          start.result.answer start.result.registered
           (ap (λ (run : Run). run.mask) over ∙ c.mask_of-mask.ensures.mask) (c.mask_of-mask.ensures.always start.ensures.always)
           (omega (arith, c.args.limits.some_threads, c.requires)) first
           (have-served stands_for Same ended.book.run ended.next c.finish-cause.result ended.book.history _ _ ended.parts.items

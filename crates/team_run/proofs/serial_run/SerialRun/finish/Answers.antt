@@ -19,7 +19,9 @@ pub loop-ready-preserved : goal.loop-ready-preserved
 loop-ready-preserved g c =
     let stands_for = g.P.ToolPart.stands_for in
     let kept = c.loop-ready.invariant in
-    let first : Serves stands_for c.visit.new.self.book.run c.args.self.now.parts.items c.args.self.now.book.history None c.loop-ready.self.parts.items c.loop-ready.self.book.history = rw c.in-Ok.ensures.run kept.serves in
+    let now = c.args.self.now in
+    let first : Serves stands_for c.visit.new.self.book.run now.parts.items now.book.history None
+    c.loop-ready.self.parts.items c.loop-ready.self.book.history = rw c.in-Ok.ensures.run kept.serves in
     record {
       run = c.in-Ok.ensures.run ∙ kept.run;
       stands = c.in-Ok.ensures.stands;

@@ -41,11 +41,13 @@ returns-in-Told g c =
       run = same;
       serves = rw same (from_either c.serve.result c.serve.ensures.answers c.serve.ensures.memory
           (λ answered. serves-to _ _ _ _ (visited answered).stands stands_for _ _ (visited answered).serves)
-          (λ kept. rw (kept.0, whole) (serves-said book.run _ book.history t c.requires.stands c.requires.turn _ _ told.is_told stands_for parts _ kept.1)));
+          (λ kept. rw (kept.0, whole) (serves-said book.run _ book.history t
+          c.requires.stands c.requires.turn _ _ told.is_told stands_for parts _ kept.1)));
       same = c.serve.ensures.same;
       stops = rw same (from_either c.serve.result c.serve.ensures.answers c.serve.ensures.memory
           (λ answered. stops-here _ _ _ (visited answered).stands)
-          (λ kept. rw (kept.0, whole) (stops-inside book.run _ book.history t c.requires.stands c.requires.turn told.is_told.event told.is_told.happens)));
+          (λ kept. rw (kept.0, whole) (stops-inside book.run _ book.history t
+          c.requires.stands c.requires.turn told.is_told.event told.is_told.happens)));
       stands = from_ok c.serve.result c.serve.ensures.answers (λ answered. rw (same, c.serve.ensures.next) (visited answered).stands);
       turns = from_ok c.serve.result c.serve.ensures.answers (λ answered. rw same (visited answered).turns);
     }
