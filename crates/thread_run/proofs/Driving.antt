@@ -4,13 +4,12 @@ use Rattle.std.{specs.Result.IsOk, proofs.lemmas.Bool.true≢false, proofs.lemma
 use Rattle.omp_model.specs.declared.cause.Cause.TheVariants as causes
 use Rattle.omp_model.specs.declared.event.Outcome.TheVariants as outcome
 use Rattle.omp_model.{specs.Cause.cause_of, specs.Legal.AllowsFrom, specs.Storing.back_at, specs.Storing.puts_at, proofs.Turns.leaves-turn, proofs.Turns.turn-goes}
-use Rattle.step_book.specs.Visit.{Visit, idle_by, idle_step, is_turn, visit}
+use Rattle.step_book.specs.Visit.{Visit, idle_by, is_turn, turn_visit, visit}
 use Rattle.step_book.{specs.declared.hold.Hold.Hold, specs.declared.step.Step.TheVariants.Quiet, specs.declared.step.Step.TheVariants.NotYet, specs.declared.step.Step.TheVariants.Ended, specs.Sharing.AnswersThen, specs.Sharing.VisitsAfterOthers, specs.Sharing.IsHold, specs.Steps.hold_by, proofs.Histories.after-append, proofs.Others.entries-append, proofs.Others.entries-others, proofs.Others.not_by-append}
 use Rattle.step_book.{proofs.Others.owes-still, proofs.Telling.ended-step, proofs.Telling.not_yet-step, proofs.Telling.quiet-step, proofs.Telling.told-step, proofs.Visiting.visit-idle, proofs.Visiting.visit-turn}
 use Rattle.team_run.specs.Names.{Call, Reply, Snapshot, Item, item_of, is_registered, Stored, stores_of, Record, one_unheard, told, Cause, Callback, Event, Entry, Run, State, first, pending_at, call_of, callback_of, heard_of, Legal, after, after_from, back, back_from, entered, inside_after, snap_of, event_reply, go_at, turn, Step, Told, NotBy, Owes, BookView, state_of, entries_of, AddsHold, PassView, book_after}
-use Rattle.team_run.specs.Names.{turn_visit}
 use Rattle.team_run.{specs.Serving.served, specs.Unheard.LeftAt, proofs.Visiting.same-pending}
-use Rattle.thread_run.proofs.Hearing.{answered, back-append, back-others, heard-split, heard_on, more-without}
+use Rattle.thread_run.proofs.Hearing.{answered, back-others, heard-split, heard_on, more-without}
 use Rattle.thread_run.specs.Driving.{HasCome, HasStep, IsDriven, IsInside}
 
 -- Entries that leave a thread as it was.
@@ -57,41 +56,37 @@ calm-untold run history t event below outside happens unregistered =
       outside = ap (λ (S : State). pending_at S t) (after-append run (first run) history (go_at t ∷ back_at t ∷ [])) ∙ back-outside (turn run S t).state t;
     }
 
-calm-turn : (book : BookView) (t : ℕ) → t < book.run.threads → pending_at (state_of book) t ≡ None → (step : Step) → (turn_visit book t).step ≡ step → ((seq : ℕ) (call : Call) (snapshot : Snapshot) → (turn_visit book t).step ≡ Told seq call snapshot → ⊥) → IsCalm book.run book.history (turn_visit book t).added t
-calm-turn book t below outside (Told seq call snapshot) is none = absurd (none seq call snapshot is)
-calm-turn book t below outside Quiet is none = elim (quiet-step book t is) [
+-- what a visit adds that comes to this step: the thread has heard no more, and is inside no callback where no event is told
+abbrev Adds : Run → List Entry → List Entry → ℕ → Step → Type 0
+Adds run history added t (Told seq call snapshot) = heard_of run (history ++ added) t ≡ heard_of run history t
+Adds run history added t other = IsCalm run history added t
+
+turn-adds : (book : BookView) (t : ℕ) → t < book.run.threads → pending_at (state_of book) t ≡ None → (step : Step)
+    → (turn_visit book t).step ≡ step → Adds book.run book.history (turn_visit book t).added t step
+turn-adds book t below outside (Told seq call snapshot) is =
+    rw (told-step book t seq call snapshot is).added_is (more-without book.run (first book.run) 0 t book.history (go_at t ∷ []) refl)
+turn-adds book t below outside Quiet is = elim (quiet-step book t is) [
   | inl alone ↦ rw alone.added_is (calm-alone book.run book.history t outside alone.none)
   | inr untold ↦ rw untold.added_is (calm-untold book.run book.history t untold.is_untold.event below outside untold.is_untold.happens untold.is_untold.unregistered)
 ]
-calm-turn book t below outside NotYet is none = absurd (not_yet-step book t is)
-calm-turn book t below outside (Ended cause) is none =
+turn-adds book t below outside NotYet is = absurd (not_yet-step book t is)
+turn-adds book t below outside (Ended cause) is =
     let alone = ended-step book t cause is in rw alone.added_is (calm-alone book.run book.history t outside alone.none)
 
--- a visit that tells of no event
-calm-visit : (book : BookView) (t : ℕ) → t < book.run.threads → pending_at (state_of book) t ≡ None → ((seq : ℕ) (call : Call) (snapshot : Snapshot) → (visit book t).step ≡ Told seq call snapshot → ⊥) → IsCalm book.run book.history (visit book t).added t
-calm-visit book t below outside none = elim (is_turn book t) as (λ b. is_turn book t ≡ b → IsCalm book.run book.history (visit book t).added t) [
-  | true ↦ λ is.
-      let same = visit-turn book t is in
-      subst (λ (v : Visit). IsCalm book.run book.history v.added t) (sym same) (calm-turn book t below outside (turn_visit book t).step refl (λ seq call snapshot told. none seq call snapshot (ap (λ (v : Visit). v.step) same ∙ told)))
-  | false ↦ λ is. subst (λ (v : Visit). IsCalm book.run book.history v.added t) (sym (visit-idle book t is)) (calm-none book.run book.history t outside)
-] refl
+idle-adds : (book : BookView) (t : ℕ) → pending_at (state_of book) t ≡ None → (ended : Bool) (cause : Option Cause)
+    → Adds book.run book.history [] t (if◌then◌else◌ {A = Step} ended (Ended causes.Memory) (idle_by cause))
+idle-adds book t outside true cause = calm-none book.run book.history t outside
+idle-adds book t outside false (Some cause) = calm-none book.run book.history t outside
+idle-adds book t outside false None = calm-none book.run book.history t outside
 
--- a visit that tells of an event has its Go
-idle-untold : (book : BookView) (seq : ℕ) (call : Call) (snapshot : Snapshot) → idle_step book ≡ Told seq call snapshot → ⊥
-idle-untold book seq call snapshot = by book.ended (cause_of book.run book.history)
-  where
-    by : (ended : Bool) (cause : Option Cause) → (if◌then◌else◌ {A = Step} ended (Ended causes.Memory) (idle_by cause)) ≡ Told seq call snapshot → ⊥
-    by true cause told = cc
-    by false (Some cause) told = cc
-    by false None told = cc
-
-told-added : (book : BookView) (t seq : ℕ) (call : Call) (snapshot : Snapshot) → (visit book t).step ≡ Told seq call snapshot → (visit book t).added ≡ go_at t ∷ []
-told-added book t seq call snapshot told = elim (is_turn book t) as (λ b. is_turn book t ≡ b → (visit book t).added ≡ go_at t ∷ []) [
-  | true ↦ λ is.
-      let same = visit-turn book t is in
-      ap (λ (v : Visit). v.added) same ∙ (told-step book t seq call snapshot (sym (ap (λ (v : Visit). v.step) same) ∙ told)).added_is
-  | false ↦ λ is. absurd (idle-untold book seq call snapshot (sym (ap (λ (v : Visit). v.step) (visit-idle book t is)) ∙ told))
-] refl
+visit-adds : (book : BookView) (t : ℕ) → t < book.run.threads → pending_at (state_of book) t ≡ None
+    → Adds book.run book.history (visit book t).added t (visit book t).step
+visit-adds book t below outside =
+    let adds = λ (v : Visit). Adds book.run book.history v.added t v.step in
+    elim (is_turn book t) as (λ b. is_turn book t ≡ b → Adds book.run book.history (visit book t).added t (visit book t).step) [
+      | true ↦ λ is. subst adds (sym (visit-turn book t is)) (turn-adds book t below outside (turn_visit book t).step refl)
+      | false ↦ λ is. subst adds (sym (visit-idle book t is)) (idle-adds book t outside book.ended (cause_of book.run book.history))
+    ] refl
 
 -- the history that the pass has seen after a hold
 pub hold-entries : (before later : PassView) (between : List Hold) (entries : List Entry) → IsHold before later between entries → entries_of later.seen ≡ (entries_of before.seen ++ entries_of between) ++ entries
@@ -131,9 +126,8 @@ module _ {P : Type 0} (stands_for : P → Record → Type 0) (Same : P → P →
       let seen : entries_of later.seen ≡ entries_of pass.seen ++ more =
       hold-entries pass later grows.between [] grows.is_hold ∙ append-nil _ in record {
         unheard = driven.unheard;
-        left =
-            rw (seen, grows.is_hold.thread) (left-others run
-            (entries_of pass.seen) more pass.thread driven.unheard grows.is_hold.not_by driven.left);
+        left = rw (seen, grows.is_hold.thread)
+            (left-others run (entries_of pass.seen) more pass.thread driven.unheard grows.is_hold.not_by driven.left);
         over = λ unheard. ended (driven.over unheard);
         hears = λ h stands. rw (seen, grows.is_hold.thread, heard-others run (entries_of pass.seen) more pass.thread grows.is_hold.not_by)
             (driven.hears h stands);
@@ -150,37 +144,6 @@ module _ {P : Type 0} (stands_for : P → Record → Type 0) (Same : P → P →
   pub driven-open : (pass : PassView) (part : P) → pending_at (after run (entries_of pass.seen)) pass.thread ≡ None → Inside pass part → Driven pass part
   driven-open pass part outside inside =
       record { unheard = false; left = outside; over = λ same. absurd (true≢false (sym same)); hears = inside.hears; same_is = inside.same_is }
-
-  -- a visit that tells of no event
-  pub driven-quiet : (pass later : PassView) (part : P) (step : Step) → pass.thread < run.threads → pass.ended ≡ false
-      → VisitsAfterOthers run pass step later
-      → ((seq : ℕ) (call : Call) (snapshot : Snapshot) → step ≡ Told seq call snapshot → ⊥) → Driven pass part → Driven later part
-  driven-quiet pass later part step below ended goes none driven =
-      let book = book_after run (pass.seen ++ goes.between) goes.ended in
-      let front = entries_of pass.seen ++ entries_of goes.between in
-      let t = pass.thread in
-      let whole : book.history ≡ front = entries-append pass.seen goes.between in
-      let outside : pending_at (after run book.history) t ≡ None = rw whole (left-others run (entries_of pass.seen)
-      (entries_of goes.between) t false goes.is_hold.not_by (open-of pass part ended driven).0) in
-      let calm = calm-visit book t below outside (λ seq call snapshot told. none seq call snapshot (goes.step_is ∙ told)) in
-      let seen : entries_of later.seen ≡ book.history ++ (visit book t).added = hold-entries pass later goes.between (visit book t).added goes.is_hold ∙ ap (λ front. front ++ (visit book t).added) (sym whole) in
-      let inside = (open-of pass part ended driven).1 in
-      let same : heard_of run (entries_of later.seen) later.thread ≡ heard_of run (entries_of pass.seen) t = rw (seen, goes.is_hold.thread) (calm.same ∙ rw whole (heard-others run (entries_of pass.seen) (entries_of goes.between) t goes.is_hold.not_by)) in
-      driven-open later part (rw (seen, goes.is_hold.thread) calm.outside) (record { hears = λ h stands. rw same (inside.hears h stands); same_is = inside.same_is })
-
-  -- a visit that tells of one
-  pub inside-told : (pass later : PassView) (part : P) (seq : ℕ) (call : Call) (snapshot : Snapshot) → pass.ended ≡ false → VisitsAfterOthers run pass (Told seq call snapshot) later → Driven pass part → Inside later part
-  inside-told pass later part seq call snapshot ended goes driven =
-      let book = book_after run (pass.seen ++ goes.between) goes.ended in
-      let t = pass.thread in
-      let inside = (open-of pass part ended driven).1 in
-      let more = entries_of goes.between ++ go_at t ∷ [] in
-      let seen : entries_of later.seen ≡ entries_of pass.seen ++ more =
-      hold-entries pass later goes.between (visit book t).added goes.is_hold ∙ ap (λ added. (entries_of pass.seen ++ entries_of goes.between) ++ added) (told-added book t seq call snapshot (sym goes.step_is)) ∙ append_assoc (entries_of pass.seen) (entries_of goes.between) (go_at t ∷ []) in
-      let same : heard_of run (entries_of later.seen) later.thread ≡ heard_of run (entries_of pass.seen) t =
-      rw (seen, goes.is_hold.thread) (more-without run (first run) 0 t (entries_of pass.seen) more
-      (back-append t (entries_of goes.between) (go_at t ∷ []) refl ∙ back-others t (entries_of goes.between) goes.is_hold.not_by)) in
-      record { hears = λ h stands. rw same (inside.hears h stands); same_is = inside.same_is }
 
   -- its callback was answered
   pub driven-answered :
@@ -237,9 +200,28 @@ module _ {P : Type 0} (stands_for : P → Record → Type 0) (Same : P → P →
       }
 
   -- a visit of a pass that hasn't ended the run
-  step-gone : (pass later : PassView) (part : P) (step : Step) → pass.thread < run.threads → pass.ended ≡ false → later.ended ≡ pass.ended → VisitsAfterOthers run pass step later → Driven pass part → HasStep stands_for Same run whose later part step
-  step-gone pass later part (Told seq call snapshot) below ended same goes driven = (same ∙ ended, inside-told pass later part seq call snapshot ended goes driven)
-  step-gone pass later part step below ended same goes driven = driven-quiet pass later part step below ended goes (λ seq call snapshot told. cc) driven
+  step-gone : (pass later : PassView) (part : P) (step : Step) → pass.thread < run.threads → pass.ended ≡ false → later.ended ≡ pass.ended
+      → VisitsAfterOthers run pass step later → Driven pass part → HasStep stands_for Same run whose later part step
+  step-gone pass later part step below ended same goes driven =
+      let t = pass.thread in
+      let book = book_after run (pass.seen ++ goes.between) goes.ended in
+      let added = (visit book t).added in
+      let before = open-of pass part ended driven in
+      let whole : book.history ≡ entries_of pass.seen ++ entries_of goes.between = entries-append pass.seen goes.between in
+      let outside : pending_at (after run book.history) t ≡ None =
+      rw whole (left-others run (entries_of pass.seen) (entries_of goes.between) t false goes.is_hold.not_by before.0) in
+      let heard : heard_of run book.history t ≡ heard_of run (entries_of pass.seen) t =
+      rw whole (heard-others run (entries_of pass.seen) (entries_of goes.between) t goes.is_hold.not_by) in
+      let seen : entries_of later.seen ≡ book.history ++ added =
+      hold-entries pass later goes.between added goes.is_hold ∙ ap (λ front. front ++ added) (sym whole) in
+      let inside : heard_of run (book.history ++ added) t ≡ heard_of run book.history t → Inside later part = λ more. record {
+        hears = λ h stands. rw (seen, goes.is_hold.thread, more, heard) (before.1.hears h stands);
+        same_is = before.1.same_is;
+      } in
+      elim step as (λ step. Adds run book.history added t step → HasStep stands_for Same run whose later part step) [
+        | Told seq call snapshot ↦ λ more. (same ∙ ended, inside more)
+        | other ↦ λ calm. driven-open later part (rw (seen, goes.is_hold.thread) calm.outside) (inside calm.same)
+      ] (rw (← goes.step_is) at (visit-adds book t below outside))
 
   -- a visit, and then no memory
   driven-ended : (pass later last : PassView) (part : P) → AddsHold pass later [] → later.ended ≡ pass.ended → AddsHold later last [] → last.ended ≡ true → Driven pass part → Driven last part

@@ -1,5 +1,5 @@
 -- What a thread hears of a history in which entries of others stand between its own.
-use Rattle.std.proofs.Common.{◌≡◌, ◌≢◌, ℕ, ◌+◌, ◌<◌, ◌==◌, ◌&&◌, ◌||◌, Bool, true, false, if◌then◌else◌, List, [], ◌∷◌, ◌++◌, length, Option, Some, None, IsSome, is_some, get_or-set_same, refl, sym, ap, subst, ◌∙◌, append_assoc, eq-eqb, arith, inl, inr}
+use Rattle.std.proofs.Common.{◌≡◌, ◌≢◌, ℕ, ◌+◌, ◌<◌, ◌==◌, ◌&&◌, ◌||◌, Bool, true, false, List, [], ◌∷◌, ◌++◌, length, Option, Some, None, IsSome, is_some, get_or-set_same, refl, sym, ap, subst, ◌∙◌, append_assoc, eq-eqb, arith, inl, inr}
 use Rattle.std.proofs.lemmas.{Bool.true≢false, Bool.and_right, Bool.cond_both, Bool.or_from, Bool.or_parts, Bool.or_right, Bool.ne_eqb, Bool.Decides.eqb_tells, List.length-set, List.Elements.filter-append}
 use Rattle.omp_model.specs.declared.event.Outcome.TheVariants as outcome
 use Rattle.omp_model.specs.Heard.{has_back, heard_at, heard_event, heard_from, heard_outcome, is_back, stores_at, stores_in}

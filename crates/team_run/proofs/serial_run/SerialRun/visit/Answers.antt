@@ -1,6 +1,6 @@
 use Rattle.std.proofs.Common.{◌≡◌, ◌<◌, ◌∙◌, refl, sym, ap, subst, arith, inl, inr, ◌∷◌, []}
 use Rattle.omp_model.{specs.Storing.go_at, proofs.Recording.first_enabled-enabled, proofs.Recording.first_enabled-below}
-use Rattle.step_book.{specs.BookView.BookView, specs.BookView.state_of, specs.BookView.with_entries, proofs.Telling.told-step, proofs.Telling.quiet-step, proofs.Telling.ended-step, proofs.Telling.not_yet-step}
+use Rattle.step_book.{specs.BookView.BookView, specs.BookView.with_entries, proofs.Telling.told-step, proofs.Telling.quiet-step, proofs.Telling.ended-step, proofs.Telling.not_yet-step}
 use Rattle.team_run.proofs.Visiting.{QuietVisit, Visited, alone-visit, stops-here, stops-inside, untold-visit, visited-said, serves-said, serves-to, from_either, from_ok}
 use Rattle.team_run.{specs.Serving.Answers, proofs.Serving.same-itself}
 use Rattle.team_run.proofs.serial_run.SerialRun.visit.Goals as goal
