@@ -7,9 +7,9 @@ use Rattle.omp_model.{specs.Cause.cause_of, specs.Legal.AllowsFrom, specs.Storin
 use Rattle.step_book.specs.Visit.{Visit, idle_by, is_turn, turn_visit, visit}
 use Rattle.step_book.{specs.declared.hold.Hold.Hold, specs.declared.step.Step.TheVariants.Quiet, specs.declared.step.Step.TheVariants.NotYet, specs.declared.step.Step.TheVariants.Ended, specs.Sharing.AnswersThen, specs.Sharing.VisitsAfterOthers, specs.Sharing.IsHold, specs.Steps.hold_by, proofs.Histories.after-append, proofs.Others.entries-append, proofs.Others.entries-others, proofs.Others.not_by-append}
 use Rattle.step_book.{proofs.Others.owes-still, proofs.Telling.ended-step, proofs.Telling.not_yet-step, proofs.Telling.quiet-step, proofs.Telling.told-step, proofs.Visiting.visit-idle, proofs.Visiting.visit-turn}
-use Rattle.team_run.specs.Names.{Call, Reply, Snapshot, Item, item_of, is_registered, Stored, stores_of, Record, one_unheard, told, Cause, Callback, Event, Entry, Run, State, first, pending_at, call_of, callback_of, heard_of, Legal, after, after_from, back, back_from, entered, inside_after, snap_of, event_reply, go_at, turn, Step, Told, NotBy, Owes, BookView, state_of, entries_of, AddsHold, PassView, book_after}
-use Rattle.team_run.{specs.Serving.served, specs.Unheard.LeftAt, proofs.Visiting.same-pending}
-use Rattle.thread_run.proofs.Hearing.{answered, back-others, heard-split, heard_on, more-without}
+use Rattle.team_run.specs.Names.{Call, Reply, Snapshot, item_of, is_registered, stores_of, Record, one_unheard, told, Cause, Callback, Event, Entry, Run, State, first, pending_at, callback_of, heard_of, Legal, after, after_from, back, back_from, entered, inside_after, event_reply, go_at, turn, Step, Told, NotBy, Owes, BookView, state_of, entries_of, AddsHold, PassView, book_after}
+use Rattle.team_run.{specs.Serving.called_for, specs.Serving.served, specs.Unheard.LeftAt, proofs.Visiting.same-pending}
+use Rattle.thread_run.proofs.Hearing.{answered, back-others, heard-split, heard_on, item_with, more-without}
 use Rattle.thread_run.specs.Driving.{HasCome, HasStep, IsDriven, IsInside}
 
 -- Entries that leave a thread as it was.
@@ -119,20 +119,25 @@ module _ {P : Type 0} (stands_for : P → Record → Type 0) (Same : P → P →
   Inside pass part = IsInside stands_for Same run whose pass part
 
   -- a hold without an entry
-  driven-grown : (pass later : PassView) (part : P) → AddsHold pass later [] → (pass.ended ≡ true → later.ended ≡ true) → Driven pass part
-      → Driven later part
-  driven-grown pass later part grows ended driven =
+  driven-later : (pass later : PassView) (part : P) (unheard : Bool) → AddsHold pass later [] → (unheard ≡ true → later.ended ≡ true)
+      → LeftAt run (entries_of pass.seen) pass.thread unheard → ((h : Record) → stands_for whose h
+      → stands_for part (called_for (heard_of run (entries_of pass.seen) pass.thread) unheard h)) → Same whose part → Driven later part
+  driven-later pass later part unheard grows over left hears same =
       let more = entries_of grows.between in
       let seen : entries_of later.seen ≡ entries_of pass.seen ++ more =
       hold-entries pass later grows.between [] grows.is_hold ∙ append-nil _ in record {
-        unheard = driven.unheard;
-        left = rw (seen, grows.is_hold.thread)
-            (left-others run (entries_of pass.seen) more pass.thread driven.unheard grows.is_hold.not_by driven.left);
-        over = λ unheard. ended (driven.over unheard);
+        unheard = unheard;
+        left = rw (seen, grows.is_hold.thread) (left-others run (entries_of pass.seen) more pass.thread unheard grows.is_hold.not_by left);
+        over = over;
         hears = λ h stands. rw (seen, grows.is_hold.thread, heard-others run (entries_of pass.seen) more pass.thread grows.is_hold.not_by)
-            (driven.hears h stands);
-        same_is = driven.same_is;
+            (hears h stands);
+        same_is = same;
       }
+
+  driven-grown : (pass later : PassView) (part : P) → AddsHold pass later [] → (pass.ended ≡ true → later.ended ≡ true) → Driven pass part
+      → Driven later part
+  driven-grown pass later part grows ended driven =
+      driven-later pass later part driven.unheard grows (λ unheard. ended (driven.over unheard)) driven.left driven.hears driven.same_is
 
   -- a pass that hasn't ended the run is inside no callback
   open-of : (pass : PassView) (part : P) → pass.ended ≡ false → Driven pass part
@@ -161,43 +166,31 @@ module _ {P : Type 0} (stands_for : P → Record → Type 0) (Same : P → P →
       hold-entries pass later grows.between (event_reply t stores) grows.is_hold ∙ ap (λ front. (front ++ between) ++ event_reply t stores) owed.history_is
       ∙ ap (λ front. front ++ event_reply t stores) (append_assoc owed.before (go_at t ∷ owed.since) between) ∙ append_assoc owed.before (go_at t ∷ since) (event_reply t stores) in
       let outside : pending_at S t ≡ None = (turn-goes S t (legal-behind run (first run) owed.before (go_at t ∷ owed.since) (subst (AllowsFrom run (first run)) owed.history_is legal)).0).outside in
-      let item : Item = record { seq = 0 + length owed.before; thread = t; call = call_of (turn run S t).state.world t owed.event; snapshot = snap_of (turn run S t).state.world t owed.event; stores = stores } in
+      let item = item_of seq t call snapshot reply in
       let place : 0 + length owed.before ≡ seq = omega (arith, owed.place) in
-      let is : item ≡ item_of seq t call snapshot reply = rw (place, owed.call_is, owed.snapshot_is) refl in
-      let heard : heard_of run (entries_of later.seen) later.thread ≡ heard_of run owed.before t ++ item ∷ [] =
-      rw (seen, grows.is_hold.thread) (heard-split run (first run) 0 t owed.before behind (within run t below) outside ∙ ap (λ more. heard_of run owed.before t ++ more) (answered run S (0 + length owed.before) t owed.event since stores owed.happens owed.registered none_since)) in
-      let before : heard_of run (entries_of pass.seen) t ≡ heard_of run owed.before t =
-      ap (λ history. heard_of run history t) owed.history_is ∙ more-without run (first run) 0 t owed.before (go_at t ∷ owed.since) (back-others t owed.since owed.none_since) in
+      let is : item_with (0 + length owed.before) t (turn run S t).state.world owed.event stores ≡ item = rw (place, owed.call_is, owed.snapshot_is) refl in
+      let heard : heard_of run (entries_of later.seen) later.thread ≡ heard_of run owed.before t ++ item ∷ [] = rw (seen, grows.is_hold.thread)
+      (heard-split run (first run) 0 t owed.before behind (within run t below) outside ∙ ap (λ more. heard_of run owed.before t ++ more)
+      (answered run S (0 + length owed.before) t owed.event since stores owed.happens owed.registered none_since ∙ ap (λ item. item ∷ []) is)) in
+      let before : heard_of run (entries_of pass.seen) t ≡ heard_of run owed.before t = ap (λ history. heard_of run history t) owed.history_is
+      ∙ more-without run (first run) 0 t owed.before (go_at t ∷ owed.since) (back-others t owed.since owed.none_since) in
+      let front = entries_of pass.seen ++ between in
       let left : pending_at (after run (entries_of later.seen)) later.thread ≡ None =
-      rw (hold-entries pass later grows.between (event_reply t stores) grows.is_hold, grows.is_hold.thread) (reply-outside run (entries_of pass.seen ++ entries_of grows.between) t stores) in
+      rw (hold-entries pass later grows.between (event_reply t stores) grows.is_hold, grows.is_hold.thread)
+      (ap (λ (S : State). pending_at S t) (after-append run (first run) front (event_reply t stores)
+      ∙ after-append run (after run front) (puts_at t stores) (back_at t ∷ [])) ∙ back-outside (after_from run (after run front) (puts_at t stores)) t) in
       driven-open later next left (record {
-        hears = λ h stands. subst (λ (h : Record). stands_for next h) (longer h (heard_of run owed.before t) item (item_of seq t call snapshot reply) is (heard_of run (entries_of later.seen) later.thread) heard) (tells (served h (heard_of run owed.before t)) (subst (λ items. stands_for part (served h items)) before (inside.hears h stands)));
+        hears = λ h stands. rw (heard, ← append_assoc) (tells (served h (heard_of run owed.before t)) (rw before at (inside.hears h stands)));
         same_is = onward whose part next inside.same_is kept;
       })
-    where
-      longer : (h : Record) (items : List Item) (one other : Item) → one ≡ other → (all : List Item) → all ≡ items ++ one ∷ [] → told (served h items) other ≡ served h all
-      longer h items one other same all is = rw (is, ← same) (ap (λ calls. record h { calls = calls }) (append_assoc h.calls items (one ∷ [])))
-
-      reply-outside : (run : Run) (history : List Entry) (t : ℕ) (stores : List Stored) → pending_at (after run (history ++ event_reply t stores)) t ≡ None
-      reply-outside run history t stores =
-          let S = after_from run (after run history) (puts_at t stores) in
-          ap (λ (S : State). pending_at S t) (after-append run (first run) history (event_reply t stores) ∙ after-append run (after run history) (puts_at t stores) (back_at t ∷ [])) ∙ back-outside S t
 
   -- its part found no memory
   pub driven-unheard : (pass later : PassView) (part next : P) (seq : ℕ) (call : Call) (snapshot : Snapshot)
       → Owes run (entries_of pass.seen) pass.thread seq call snapshot → AddsHold pass later [] → later.ended ≡ true
       → ((h : Record) → stands_for part h → stands_for next (one_unheard h)) → ((first second third : P) → Same first second → Same second third → Same first third) → Same part next → Inside pass part → Driven later next
   driven-unheard pass later part next seq call snapshot owes grows ended none onward kept inside =
-      let t = pass.thread in
-      let seen : entries_of later.seen ≡ entries_of pass.seen ++ entries_of grows.between = hold-entries pass later grows.between [] grows.is_hold ∙ append-nil _ in
-      let left : LeftAt run (entries_of later.seen) later.thread true = rw (seen, grows.is_hold.thread) (left-others run (entries_of pass.seen) (entries_of grows.between) t true grows.is_hold.not_by (record { seq = seq; call = call; snapshot = snapshot; owes = owes })) in
-      record {
-        unheard = true;
-        left = left;
-        over = λ same. ended;
-        hears = λ h stands. rw (seen, grows.is_hold.thread, heard-others run (entries_of pass.seen) (entries_of grows.between) t grows.is_hold.not_by) (none _ (inside.hears h stands));
-        same_is = onward whose part next inside.same_is kept;
-      }
+      driven-later pass later next true grows (λ same. ended) (record { seq = seq; call = call; snapshot = snapshot; owes = owes })
+      (λ h stands. none _ (inside.hears h stands)) (onward whose part next inside.same_is kept)
 
   -- a visit of a pass that hasn't ended the run
   step-gone : (pass later : PassView) (part : P) (step : Step) → pass.thread < run.threads → pass.ended ≡ false → later.ended ≡ pass.ended
