@@ -168,19 +168,24 @@ module _ {P : Type 0} (stands_for : P → Record → Type 0) (Same : P → P →
       let outside : pending_at S t ≡ None = (turn-goes S t (legal-behind run (first run) owed.before (go_at t ∷ owed.since) (subst (AllowsFrom run (first run)) owed.history_is legal)).0).outside in
       let item = item_of seq t call snapshot reply in
       let place : 0 + length owed.before ≡ seq = omega (arith, owed.place) in
-      let is : item_with (0 + length owed.before) t (turn run S t).state.world owed.event stores ≡ item = rw (place, owed.call_is, owed.snapshot_is) refl in
-      let heard : heard_of run (entries_of later.seen) later.thread ≡ heard_of run owed.before t ++ item ∷ [] = rw (seen, grows.is_hold.thread)
-      (heard-split run (first run) 0 t owed.before behind (within run t below) outside ∙ ap (λ more. heard_of run owed.before t ++ more)
-      (answered run S (0 + length owed.before) t owed.event since stores owed.happens owed.registered none_since ∙ ap (λ item. item ∷ []) is)) in
-      let before : heard_of run (entries_of pass.seen) t ≡ heard_of run owed.before t = ap (λ history. heard_of run history t) owed.history_is
+      let is : item_with (0 + length owed.before) t (turn run S t).state.world owed.event stores ≡ item =
+      rw (place, owed.call_is, owed.snapshot_is) refl in
+      let told_now = answered run S (0 + length owed.before) t owed.event since stores owed.happens owed.registered none_since in
+      let heard : heard_of run (entries_of later.seen) later.thread ≡ heard_of run owed.before t ++ item ∷ [] =
+      rw (seen, grows.is_hold.thread) (heard-split run (first run) 0 t owed.before behind (within run t below) outside
+      ∙ ap (λ more. heard_of run owed.before t ++ more) (told_now ∙ ap (λ item. item ∷ []) is)) in
+      let before : heard_of run (entries_of pass.seen) t ≡ heard_of run owed.before t =
+      ap (λ history. heard_of run history t) owed.history_is
       ∙ more-without run (first run) 0 t owed.before (go_at t ∷ owed.since) (back-others t owed.since owed.none_since) in
       let front = entries_of pass.seen ++ between in
+      let put = after_from run (after run front) (puts_at t stores) in
       let left : pending_at (after run (entries_of later.seen)) later.thread ≡ None =
       rw (hold-entries pass later grows.between (event_reply t stores) grows.is_hold, grows.is_hold.thread)
       (ap (λ (S : State). pending_at S t) (after-append run (first run) front (event_reply t stores)
-      ∙ after-append run (after run front) (puts_at t stores) (back_at t ∷ [])) ∙ back-outside (after_from run (after run front) (puts_at t stores)) t) in
+      ∙ after-append run (after run front) (puts_at t stores) (back_at t ∷ [])) ∙ back-outside put t) in
       driven-open later next left (record {
-        hears = λ h stands. rw (heard, ← append_assoc) (tells (served h (heard_of run owed.before t)) (rw before at (inside.hears h stands)));
+        hears = λ h stands.
+            rw (heard, ← append_assoc) (tells (served h (heard_of run owed.before t)) (rw before at (inside.hears h stands)));
         same_is = onward whose part next inside.same_is kept;
       })
 
