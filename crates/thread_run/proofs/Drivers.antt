@@ -35,34 +35,31 @@ module _ {L : Type 0} (all yielded behind rest : List L) (one : L) (whole : yiel
   ]
 
 module _ {P : Type 0} (stands_for : P → Record → Type 0) (Same : P → P → Type 0) (run : Run) where
-  -- a driver before its first visit
-  driver-first : ((part : P) → Same part part) → (t : ℕ) (first_part part : P) (pass : PassView) → pass ≡ fresh_pass t → part ≡ first_part → IsDriver stands_for Same run t first_part pass part
-  driver-first itself t first_part part pass fresh same =
-      let outside : pending_at (first run) t ≡ None =
-      at-replicate (λ (callback : Option Callback). callback ≡ None) run.threads t None refl in
-      let driven : IsDriven stands_for Same run first_part (fresh_pass t) first_part = record {
+  -- the drivers before their first visits
+  pub drivers-first : ((part : P) → Same part part) → (parts : List P) (passes : List PassView) → length parts ≡ run.threads
+      → length passes ≡ run.threads → ((k : ℕ) (d : PassView) → k < run.threads → get_or passes k d ≡ fresh_pass k)
+      → AreDrivers stands_for Same run parts passes parts
+  drivers-first itself parts passes many count fresh k d e f below =
+      let one = get_or parts k e in
+      let outside : pending_at (first run) k ≡ None =
+      at-replicate (λ (callback : Option Callback). callback ≡ None) run.threads k None refl in
+      let driven : IsDriven stands_for Same run one (fresh_pass k) one = record {
         unheard = false;
         left = outside;
         over = λ said. absurd (true≢false (sym said));
-        hears = λ h stands. subst (λ (h : Record). stands_for first_part h) (sym (served-nil h)) stands;
-        same_is = itself first_part;
+        hears = λ h stands. subst (λ (h : Record). stands_for one h) (sym (served-nil h)) stands;
+        same_is = itself one;
       } in
-      rw (fresh, same) (record { thread = refl; driven = driven })
-
-  -- all of them
-  pub drivers-first : ((part : P) → Same part part) → (parts : List P) (passes : List PassView) → length parts ≡ run.threads → length passes ≡ run.threads → ((k : ℕ) (d : PassView) → k < run.threads → get_or passes k d ≡ fresh_pass k)
-      → AreDrivers stands_for Same run parts passes parts
-  drivers-first itself parts passes many count fresh k d e f below =
-      driver-first itself k (get_or parts k e) (get_or parts k f) (get_or passes k d) (fresh k d (omega (arith, below, count))) (get_or_default parts k f e (omega (arith, below, count, many)))
+      rw (fresh k d (omega (arith, below, count)), get_or_default parts k f e (omega (arith, below, count, many)))
+      (record { thread = refl; driven = driven })
 
   -- the next driver, where a loop has gone through the passes and parts up to it
-  pub driver-next : (all yielded behind rest : List PassView) (pass : PassView) → yielded ++ behind ≡ all → behind ≡ pass ∷ rest → (parts : List P) (part : P) (n : ℕ) → n ≡ length yielded → ((d : P) → part ≡ get_or parts (length yielded) d)
+  pub driver-next : (all yielded behind rest : List PassView) (pass : PassView) → yielded ++ behind ≡ all → behind ≡ pass ∷ rest
+      → (parts : List P) (part : P) (n : ℕ) → n ≡ length yielded → ((d : P) → part ≡ get_or parts (length yielded) d)
       → AreDrivers stands_for Same run parts all parts → (e : P) → IsDriver stands_for Same run n (get_or parts n e) pass part
   driver-next all yielded behind rest pass whole next parts part n same is are e =
-      let here = are (length yielded) pass e e (item-below all yielded behind rest pass whole next) in
-      subst (λ k. IsDriver stands_for Same run k (get_or parts k e) pass part) (sym same)
-      (subst (λ part. IsDriver stands_for Same run (length yielded) (get_or parts (length yielded) e) pass part) (sym (is e))
-      (subst (λ pass. IsDriver stands_for Same run (length yielded) (get_or parts (length yielded) e) pass (get_or parts (length yielded) e)) (item-at all yielded behind rest pass whole next pass) here))
+      rw (same, is e, ← item-at all yielded behind rest pass whole next pass)
+      (are (length yielded) pass e e (item-below all yielded behind rest pass whole next))
 
 -- one more of a list
 pub for-more : {P L : Type 0} (is : ℕ → P → L → Type 0) (parts : List P) (slots : List L) (slot : L) → AreFor is parts slots → ((e : P) → is (length slots) (get_or parts (length slots) e) slot) → AreFor is parts (slots ++ slot ∷ [])
