@@ -1,7 +1,7 @@
 -- The drivers of a run: as they are started, and once all have come back.
-use Rattle.std.proofs.Common.{◌≡◌, ◌≢◌, ℕ, zero, suc, ◌+◌, ◌<◌, ◌≤◌, Bool, true, false, if◌then◌else◌, List, [], ◌∷◌, ◌++◌, length, length-append, get_or, slice_set, drop, Option, Some, None, refl, sym, ap, subst, ◌∙◌, append_assoc, inl, inr, ◌⊎◌, arith}
-use Rattle.std.proofs.lemmas.Bool.{true≢false, false_from_ne_true, cases_eq, cases_lt, or_left, or_right}
-use Rattle.std.proofs.lemmas.List.{drop_more, get_or_append_left, get_or_at, get_or_default, get_or_push, get_or-set_same, get_or-set_other, length-drop, length-set}
+use Rattle.std.proofs.Common.{◌≡◌, ◌≢◌, ℕ, ◌+◌, ◌<◌, ◌≤◌, Bool, true, false, if◌then◌else◌, List, [], ◌∷◌, ◌++◌, length, length-append, get_or, slice_set, drop, Option, Some, None, refl, sym, ap, subst, ◌∙◌, append_assoc, inl, inr, ◌⊎◌, arith}
+use Rattle.std.proofs.lemmas.Bool.{true≢false, false_from_ne_true, cases_eq, cases_lt}
+use Rattle.std.proofs.lemmas.List.{Folds.list_any_at, drop_more, get_or_append_left, get_or_at, get_or_default, get_or_push, get_or-set_same, get_or-set_other, length-drop, length-set}
 use Rattle.omp_model.specs.declared.cause.Cause.TheVariants as causes
 use Rattle.omp_model.proofs.MadeRuns.{at-replicate}
 use Rattle.step_book.{specs.Rule.NoneBy, specs.Sharing.AreOwn, specs.Sharing.IsClosed, specs.Sharing.any_ended, specs.Sharing.fresh_pass, proofs.Others.entries-append, proofs.Others.holds-others, proofs.Others.own-back}
@@ -103,11 +103,6 @@ cause-known : (ended : Bool) (cause : Cause) (found : Option Cause) → Some cau
 cause-known true cause found is other = let same : cause ≡ causes.Memory = cc in absurd (other same)
 cause-known false cause found is other = sym is
 
-any-at : (passes : List PassView) (k : ℕ) (d : PassView) → k < length passes → (get_or passes k d).ended ≡ true → any_ended passes ≡ true
-any-at [] k d below ended = absurd (omega arith)
-any-at (pass ∷ rest) zero d below ended = or_left pass.ended (any_ended rest) ended
-any-at (pass ∷ rest) (suc k) d below ended = or_right pass.ended (any_ended rest) (any-at rest k d (omega arith) ended)
-
 module _ {P : Type 0} (stands_for : P → Record → Type 0) (Same : P → P → Type 0) (run : Run) (parts others : List P) (passes : List PassView) (closed : Closed) (p : P)
     (count : length parts ≡ run.threads) (passed : length passes ≡ run.threads) (back : length others ≡ run.threads)
     (drivers : AreDrivers stands_for Same run parts passes others) (is_closed : IsClosed run passes closed.history)
@@ -143,8 +138,10 @@ module _ {P : Type 0} (stands_for : P → Record → Type 0) (Same : P → P →
       ap (λ history. heard_of run history k) whole ∙ heard-others run (entries_of seen) more k not_by in record {
         left = subst (λ history. LeftAt run history k one.driven.unheard) (sym whole)
             (left-others run (entries_of seen) more k one.driven.unheard not_by (rw one.thread at one.driven.left));
-        heard = λ other. false_from_ne_true one.driven.unheard
-            (λ unheard. other (cause_is ∙ rw (any-at passes k none (omega (arith, below, passed)) (one.driven.over unheard)) refl));
+        heard = λ other. false_from_ne_true one.driven.unheard (λ unheard.
+            let over = one.driven.over unheard in
+            let ended = list_any_at (λ (pass : PassView). pass.ended) passes k none (omega (arith, below, passed)) over in
+            other (cause_is ∙ rw ended refl));
         hears = λ d h stands.
             let from = subst (λ part. stands_for part h) (get_or_default parts k d p (omega (arith, below, count))) stands in
             let hears = rw one.thread at (one.driven.hears h from) in
