@@ -1,5 +1,4 @@
--- What parts stand for after what their threads hear.
--- What the parts stand for once the part of a thread was called.
+-- What parts stand for after what their threads hear, and once the part of a thread was called.
 use Rattle.std.proofs.Common.{◌≡◌, ℕ, ◌<◌, ◌==◌, Bool, true, false, if◌then◌else◌, cond, List, [], ◌∷◌, ◌++◌, filter, length, take, drop, slice_index_or, Option, None, refl, sym, ap, subst, ◌∙◌, append_assoc, append-nil, eq-eqb, arith, slice_set, inl, inr}
 use Rattle.std.proofs.lemmas.List.{take_all, drop_all, get_or_default, get_or-set_same, get_or-set_other}
 use Rattle.std.proofs.lemmas.{List.Elements.filter-append, Bool.ne_eqb, Bool.Decides.eqb_tells}
@@ -15,10 +14,6 @@ on_thread k items = filter (λ (item : Item). item.thread == k) items
 pub served-nil : (h : Record) → served h [] ≡ h
 served-nil h = ap (λ calls. record h { calls = calls }) (append-nil h.calls)
 
--- a record with one more call
-told-served : (h : Record) (items : List Item) (item : Item) → told (served h items) item ≡ served h (items ++ item ∷ [])
-told-served h items item = ap (λ calls. record h { calls = calls }) (append_assoc h.calls items (item ∷ []))
-
 -- what a thread has heard where more was heard
 pub heard_of-more : (run : Run) (H K : List Entry) (items : List Item) (k : ℕ) → heard run K ≡ heard run H ++ items → heard_of run K k ≡ heard_of run H k ++ on_thread k items
 heard_of-more run H K items k more = ap (on_thread k) more ∙ filter-append (λ (item : Item). item.thread == k) (heard run H) items
@@ -27,14 +22,15 @@ heard_of-more run H K items k more = ap (on_thread k) more ∙ filter-append (λ
 pub heard_of-same : (run : Run) (H K : List Entry) (k : ℕ) → heard run K ≡ heard run H → heard_of run K k ≡ heard_of run H k
 heard_of-same run H K k same = ap (on_thread k) same
 
--- a call, or none
-told-by : (b : Bool) (h : Record) (items : List Item) (item : Item) → (if b then told (served h items) item else served h items) ≡ served h (items ++ cond b (item ∷ []) [])
-told-by true h items item = told-served h items item
-told-by false h items item = ap (λ more. served h more) (sym (append-nil items))
-
 -- the part of the thread is told of one item more, and the others are told of nothing
-told_on-served : (t k : ℕ) (h : Record) (items : List Item) (item : Item) → item.thread ≡ t → told_on t k item (served h items) ≡ served h (items ++ on_thread k (item ∷ []))
-told_on-served t k h items item is = subst (λ u. told_on t k item (served h items) ≡ served h (items ++ cond (u == k) (item ∷ []) [])) (sym is) (told-by (t == k) h items item)
+told_on-served : (t k : ℕ) (h : Record) (items : List Item) (item : Item) → item.thread ≡ t
+    → told_on t k item (served h items) ≡ served h (items ++ on_thread k (item ∷ []))
+told_on-served t k h items item is =
+    subst (λ u. told_on t k item (served h items) ≡ served h (items ++ cond (u == k) (item ∷ []) [])) (sym is)
+    (elim (t == k) as (λ b. (if b then told (served h items) item else served h items) ≡ served h (items ++ cond b (item ∷ []) [])) [
+      | true ↦ ap (λ calls. record h { calls = calls }) (append_assoc h.calls items (item ∷ []))
+      | false ↦ ap (λ more. served h more) (sym (append-nil items))
+    ])
 
 module _ {P : Type 0} (stands_for : P → Record → Type 0) (run : Run) where
   -- one step after another
@@ -52,7 +48,8 @@ module _ {P : Type 0} (stands_for : P → Record → Type 0) (run : Run) where
   }
 
   -- where one item more is heard, and the part of its thread was told of it
-  pub serves-told : (parts others : List P) (H K : List Entry) (t : ℕ) (item : Item) → item.thread ≡ t → heard run K ≡ heard run H ++ item ∷ [] → length others ≡ length parts
+  pub serves-told : (parts others : List P) (H K : List Entry) (t : ℕ) (item : Item) → item.thread ≡ t
+      → heard run K ≡ heard run H ++ item ∷ [] → length others ≡ length parts
       → ((k : ℕ) → k < length parts → Becomes stands_for parts others k (told_on t k item)) → Serves stands_for run parts H None others K
   serves-told parts others H K t item is more as_many each = record {
     as_many = as_many;
@@ -62,47 +59,38 @@ module _ {P : Type 0} (stands_for : P → Record → Type 0) (run : Run) where
   }
 
 -- calls that are silent are so in both parts
-pub silent-front : (xs ys : List Item) → AreSilent (xs ++ ys) → AreSilent xs
-silent-front [] ys silent = tt
-silent-front (x ∷ xs) ys silent = (silent.0, silent-front xs ys silent.1)
+silent-parts : (xs ys : List Item) → AreSilent (xs ++ ys) → AreSilent xs × AreSilent ys
+silent-parts [] ys silent = (tt, silent)
+silent-parts (x ∷ xs) ys silent = let rest = silent-parts xs ys silent.1 in ((silent.0, rest.0), rest.1)
 
-pub silent-back : (xs ys : List Item) → AreSilent (xs ++ ys) → AreSilent ys
-silent-back [] ys silent = silent
-silent-back (x ∷ xs) ys silent = silent-back xs ys silent.1
-
-module _ (run : Run) (H K : List Entry) (items : List Item) (more : heard run K ≡ heard run H ++ items) where
-  -- what was silent before
-  pub hears-front : HearsSilent run K → HearsSilent run H
-  hears-front silent = λ k below. silent-front (heard_of run H k) (on_thread k items) (subst AreSilent (heard_of-more run H K items k more) (silent k below))
-
-  -- and what is heard now
-  pub hears-back : (t : ℕ) → t < run.threads → HearsSilent run K → AreSilent (on_thread t items)
-  hears-back t below silent = silent-back (heard_of run H t) (on_thread t items) (subst AreSilent (heard_of-more run H K items t more) (silent t below))
-
--- an item of its own thread
-own-item : (t : ℕ) (item : Item) → item.thread ≡ t → on_thread t (item ∷ []) ≡ item ∷ []
-own-item t item is = rw (is, eq-eqb t t refl) refl
-
-pub item-silent : (run : Run) (H K : List Entry) (t : ℕ) (item : Item) → item.thread ≡ t → heard run K ≡ heard run H ++ item ∷ [] → t < run.threads → HearsSilent run K → item.stores ≡ []
-item-silent run H K t item is more below silent = (subst AreSilent (own-item t item is) (hears-back run H K (item ∷ []) more t below silent)).0
+-- where one item more is heard, and all is silent, what was heard before is, and nothing was stored during the item
+pub told-silent : (run : Run) (H K : List Entry) (t : ℕ) (item : Item) → item.thread ≡ t → heard run K ≡ heard run H ++ item ∷ []
+    → t < run.threads → HearsSilent run K → HearsSilent run H × (item.stores ≡ [])
+told-silent run H K t item is more below silent =
+    let parts : (k : ℕ) → k < run.threads → AreSilent (heard_of run H k) × AreSilent (on_thread k (item ∷ [])) = λ k under.
+    silent-parts (heard_of run H k) (on_thread k (item ∷ []))
+    (subst AreSilent (heard_of-more run H K (item ∷ []) k more) (silent k under)) in
+    let own : on_thread t (item ∷ []) ≡ item ∷ [] = rw (is, eq-eqb t t refl) refl in
+    (λ k under. (parts k under).0, (subst AreSilent own (parts t below).1).0)
 
 -- nothing is heard on a thread that the run doesn't have, where one item more is heard on another
-other-item : (t k : ℕ) (item : Item) → item.thread ≡ t → t < k → on_thread k (item ∷ []) ≡ []
-other-item t k item is below = rw (is, ne_eqb t k (λ same. omega (arith, same, below))) refl
-
-pub own-told : (run : Run) (H K : List Entry) (t : ℕ) (item : Item) → item.thread ≡ t → t < run.threads → heard run K ≡ heard run H ++ item ∷ [] → HearsOwn run H → HearsOwn run K
+pub own-told : (run : Run) (H K : List Entry) (t : ℕ) (item : Item) → item.thread ≡ t → t < run.threads
+    → heard run K ≡ heard run H ++ item ∷ [] → HearsOwn run H → HearsOwn run K
 own-told run H K t item is below more own = λ k past.
-    heard_of-more run H K (item ∷ []) k more ∙ ap (λ items. items ++ on_thread k (item ∷ [])) (own k past) ∙ other-item t k item is (omega arith)
+    let none : on_thread k (item ∷ []) ≡ [] = rw (is, ne_eqb t k (λ same. omega (arith, same, below, past))) refl in
+    heard_of-more run H K (item ∷ []) k more ∙ ap (λ items. items ++ on_thread k (item ∷ [])) (own k past) ∙ none
 
 pub own-unheard : (run : Run) (H K : List Entry) → heard run K ≡ heard run H → HearsOwn run H → HearsOwn run K
 own-unheard run H K same own = λ k past. heard_of-same run H K k same ∙ own k past
 
 -- a slice of a whole vector, written back
 pub written-back : {P : Type 0} (new items : List P) (len : ℕ) → length new ≡ length items → length items ≡ len → take len (new ++ drop (length new) items) ≡ new
-written-back new items len same all = ap (λ more. take len (new ++ more)) (drop_all (length new) items (omega (arith, same))) ∙ ap (take len) (append-nil new) ∙ take_all len new (omega (arith, same, all))
+written-back new items len same all = ap (λ more. take len (new ++ more)) (drop_all (length new) items (omega (arith, same)))
+    ∙ ap (take len) (append-nil new) ∙ take_all len new (omega (arith, same, all))
 
 -- what a slice of a whole vector came to, said of the vector
-pub changes-vector : {P : Type 0} (stands_for : P → Record → Type 0) (Same : P → P → Type 0) (more : Record → Record) (items slice changed : List P) (len : ℕ) → slice ≡ items → length items ≡ len
+pub changes-vector : {P : Type 0} (stands_for : P → Record → Type 0) (Same : P → P → Type 0) (more : Record → Record)
+    (items slice changed : List P) (len : ℕ) → slice ≡ items → length items ≡ len
     → ChangesFirst stands_for Same more slice changed → ChangesFirst stands_for Same more items (take len (changed ++ drop (length changed) items))
 changes-vector {P} stands_for Same more items slice changed len whole full change =
     let of_items : ChangesFirst stands_for Same more items changed = subst (λ (slice : List P). ChangesFirst stands_for Same more slice changed) whole change in
@@ -118,9 +106,13 @@ same-then Same onward parts between after as_many first second =
 
 -- the first part was started, all were called, and the first was finished
 pub is-ran :
-    {P : Type 0} (stands_for : P → Record → Type 0) (Same : P → P → Type 0) → ((one other third : P) → Same one other → Same other third → Same one third) → (is_serial : Bool) (run : Run) (ran : Ran P) (parts started between : List P) (answer registered : ℕ)
-    → run.mask ≡ mask_of answer registered → AreAlways ran.mask → 0 < length parts → ChangesFirst stands_for Same (λ (h : Record). initialized h answer registered) parts started
-    → HaveServed stands_for Same is_serial run ran.cause ran.history ran.text.items started between → ChangesFirst stands_for Same (finished_by answer) between ran.parts.items → IsRan stands_for Same is_serial run parts ran
+    {P : Type 0} (stands_for : P → Record → Type 0) (Same : P → P → Type 0)
+    → ((one other third : P) → Same one other → Same other third → Same one third)
+    → (is_serial : Bool) (run : Run) (ran : Ran P) (parts started between : List P) (answer registered : ℕ)
+    → run.mask ≡ mask_of answer registered → AreAlways ran.mask → 0 < length parts
+    → ChangesFirst stands_for Same (λ (h : Record). initialized h answer registered) parts started
+    → HaveServed stands_for Same is_serial run ran.cause ran.history ran.text.items started between
+    → ChangesFirst stands_for Same (finished_by answer) between ran.parts.items → IsRan stands_for Same is_serial run parts ran
 is-ran {P} stands_for Same onward is_serial run ran parts started between answer registered mask_is always some start served last = record {
   to = served.to;
   parts = record {
@@ -131,35 +123,40 @@ is-ran {P} stands_for Same onward is_serial run ran parts started between answer
     unheard = served.unheard;
     are_unheard = served.are_unheard;
     all_heard = served.all_heard;
-    first = λ d h stands. last.first d _ (served.each 0 d (initialized h answer registered) (omega (arith, some, start.as_many)) (start.first d h stands));
+    first = λ d h stands. last.first d _ (served.each 0 d (initialized h answer registered) (omega (arith, some, start.as_many))
+        (start.first d h stands));
     each = λ k past below d h stands.
-        subst (λ (part : P). stands_for part (called_for (heard_of run ran.history k) (served.unheard k) h)) (sym (last.others_are k d past))
-        (served.each k d h (omega (arith, below, start.as_many)) (subst (λ (part : P). stands_for part h) (sym (start.others_are k d past)) stands));
+        subst (λ (part : P). stands_for part (called_for (heard_of run ran.history k) (served.unheard k) h))
+        (sym (last.others_are k d past))
+        (served.each k d h (omega (arith, below, start.as_many))
+        (subst (λ (part : P). stands_for part h) (sym (start.others_are k d past)) stands));
   };
-  same = same-then Same onward parts between ran.parts.items (served.as_many ∙ start.as_many) (same-then Same onward parts started between start.as_many start.same served.same) last.same;
+  same = same-then Same onward parts between ran.parts.items (served.as_many ∙ start.as_many)
+      (same-then Same onward parts started between start.as_many start.same served.same) last.same;
   always = always;
   text = served.text_is;
 }
 
-module _ {P : Type 0} (stands_for : P → Record → Type 0) (parts : List P) (t : ℕ) (found part : P) (is : found ≡ slice_index_or parts t found) (within : t < length parts) where
-  -- the part that was found is the thread's, whatever stands for none
-  found-at : (k : ℕ) (d : P) (h : Record) → t ≡ k → stands_for (slice_index_or parts k d) h → stands_for found h
-  found-at k d h same stands = subst (λ (p : P). stands_for p h) (get_or_default parts t d found within ∙ sym is) (subst (λ i. stands_for (slice_index_or parts i d) h) (sym same) stands)
-
+module _ {P : Type 0} (stands_for : P → Record → Type 0) (parts : List P) (t : ℕ) (found part : P)
+    (is : found ≡ slice_index_or parts t found) (within : t < length parts) where
   -- the part of the thread was told of an item, and the others are as they were
-  pub told-at : (item : Item) → ((h : Record) → stands_for found h → stands_for part (told h item)) → (k : ℕ) → k < length parts → Becomes stands_for parts (slice_set parts t part) k (told_on t k item)
+  pub told-at : (item : Item) → ((h : Record) → stands_for found h → stands_for part (told h item)) → (k : ℕ) → k < length parts
+      → Becomes stands_for parts (slice_set parts t part) k (told_on t k item)
   told-at item keeps k below d h stands = elim (eqb_tells t k) [
-    | inl same ↦ rw (same.0, ← same.1, get_or-set_same parts t part d within) (keeps h (found-at k d h same.1 stands))
+    | inl same ↦ rw (same.0, ← same.1, get_or-set_same parts t part d within)
+        (keeps h (rw (← same.1, get_or_default parts t d found within, ← is) at stands))
     | inr different ↦ rw (different.0, get_or-set_other parts t k part d (λ same. different.1 (sym same))) stands
   ]
 
 -- the part of the thread is the one that it was, and so are the others
-pub same-at : {P : Type 0} (Same : P → P → Type 0) → ((part : P) → Same part part) → (parts : List P) (t : ℕ) (found part : P) → found ≡ slice_index_or parts t found → t < length parts → Same found part
+pub same-at : {P : Type 0} (Same : P → P → Type 0) → ((part : P) → Same part part) → (parts : List P) (t : ℕ) (found part : P)
+    → found ≡ slice_index_or parts t found → t < length parts → Same found part
     → AreSame Same parts (slice_set parts t part)
 same-at {P} Same itself parts t found part is within same = record { each = each }
   where
     each : (k : ℕ) (d : P) → k < length parts → Same (slice_index_or parts k d) (slice_index_or (slice_set parts t part) k d)
     each k d below = elim (eqb_tells t k) [
-      | inl equal ↦ rw (← equal.1, get_or-set_same parts t part d within) (subst (λ p. Same p part) (is ∙ get_or_default parts t found d within) same)
+      | inl equal ↦ rw (← equal.1, get_or-set_same parts t part d within)
+          (subst (λ p. Same p part) (is ∙ get_or_default parts t found d within) same)
       | inr different ↦ rw (get_or-set_other parts t k part d (λ equal. different.1 (sym equal))) (itself (slice_index_or parts k d))
     ]

@@ -4,15 +4,15 @@ use Rattle.std.{specs.List.list_all, proofs.lemmas.Bool.true≢false, proofs.lem
 use Rattle.omp_model.specs.declared.cause.Cause.TheVariants as cause
 use Rattle.omp_model.proofs.Turns.{Leaves, leaves-turn, turn-pending, turns-rise, back-turns}
 use Rattle.omp_model.proofs.Recording.{HasRun-start, HasRun-after, HasRun-alone, HasRun-event, HasRun-serial, HasRun-whole, HasRun-pending, heard-alone, heard-event, heard-pending, event_at, first_enabled-below, first_enabled-enabled, first_enabled-none, put_all-turns, StoresNothing-append}
-use Rattle.omp_model.{specs.declared.event.Outcome.TheVariants.Idle, specs.declared.event.Outcome.TheVariants.Quiet, specs.declared.event.Outcome.TheVariants.Happens, specs.declared.event.Outcome.TheVariants.Halts, specs.declared.event.Halt.Halt, specs.Cause.whole_value, specs.Cause.is_stuck, specs.Cause.cause_of_whole, specs.Cause.cause_by_halt, specs.Storing.put_all, specs.Storing.MayStore, specs.Legal.put}
+use Rattle.omp_model.{specs.declared.event.Outcome.TheVariants.Happens, specs.declared.event.Halt.Halt, specs.Cause.whole_value, specs.Cause.is_stuck, specs.Cause.cause_of_whole, specs.Cause.cause_by_halt, specs.Storing.put_all, specs.Storing.MayStore, specs.Legal.put}
 use Rattle.omp_model.{specs.Running.HasRun, specs.Serial.enabled_among, proofs.SerialLaws.serial-whole, proofs.Replies.may-store}
-use Rattle.ompt_calls.specs.{Snapshot.target_of, Snapshot.stored, Snapshot.stored_of, declared.snapshot.Target.Target, declared.reply.Store.Store}
+use Rattle.ompt_calls.specs.{Snapshot.target_of, Snapshot.stored, Snapshot.stored_of, declared.reply.Store.Store}
 use Rattle.omp_machine.proofs.{Storing.Inside, Storing.inside-put, Telling.IsTold, Telling.IsUntold}
 use Rattle.step_book.proofs.{Telling.HasUntold, Telling.IsAlone, Visiting.inside-told}
-use Rattle.team_run.specs.Names.{Call, Snapshot, Item, Reply, Stored, stores_of, Entry, Callback, Cause, Event, Outcome, Run, State, first, pending_at, call_of, snap_of, turn, called, after, put_from, back_from, back, heard, first_enabled, inside_after, StoresNothing, go_at, event_reply, none_pending, cause_of, BookView, state_of, with_entries, turn_visit, Record}
+use Rattle.team_run.specs.Names.{Call, Snapshot, Item, Reply, Stored, stores_of, Entry, Callback, Cause, Event, Outcome, Run, State, pending_at, call_of, snap_of, turn, called, after, put_from, back_from, back, heard, first_enabled, inside_after, StoresNothing, go_at, event_reply, none_pending, cause_of, BookView, state_of, with_entries, turn_visit, Record}
 use Rattle.team_run.specs.Serving.{AreSame, Serves, ServesTo, OnlyUnheard, Answers}
 use Rattle.team_run.specs.Standing.{AreSilent, HearsOwn, HearsSilent, StandsAt, StopsAt}
-use Rattle.team_run.proofs.Serving.{serves-told, serves-unheard, served-nil, hears-front, item-silent, own-told, own-unheard, heard_of-same}
+use Rattle.team_run.proofs.Serving.{serves-told, serves-unheard, served-nil, told-silent, own-told, own-unheard, heard_of-same}
 use Rattle.team_run.specs.{Program.HaveServed, Unheard.IsUnheard, Unheard.is_of}
 
 abbrev pub all_none : List (Option Callback) → Bool
@@ -53,14 +53,13 @@ nobody-back run S t event stores nobody happens waits =
 -- a thread inside a callback that is registered still is inside one after its stores
 waits-put_all : (run : Run) (S : State) (t : ℕ) (e : Event) (made : ℕ) (stores : List Stored) → Inside run S t e made → IsSome (pending_at (put_all S t stores) t)
 waits-put_all run S t e made [] inside = rw inside.pending refl
-waits-put_all run S t e made (store ∷ rest) inside = waits-put_all run (put S t store.target store.word) t e (made + 1) rest (inside-put run S t e made store.target store.word inside)
+waits-put_all run S t e made (store ∷ rest) inside =
+    waits-put_all run (put S t store.target store.word) t e (made + 1) rest (inside-put run S t e made store.target store.word inside)
 
 -- a turn with no event leaves the callbacks alone
 pub same-pending : (S after : State) (t : ℕ) (o : Outcome) → Leaves S t after o → inside_after o t ≡ None → after.pending ≡ S.pending
-same-pending S after t Idle leaves none = leaves.2
-same-pending S after t Quiet leaves none = leaves.2
 same-pending S after t (Happens event) leaves none = cc
-same-pending S after t (Halts halt) leaves none = leaves.2
+same-pending S after t o leaves none = leaves.2
 
 -- before the first entry
 pub stands-start : (run : Run) → 1 ≤ run.threads → run.threads ≤ 16 → StandsAt run 0 []
@@ -79,37 +78,33 @@ pub stops-here : (run : Run) (from : ℕ) (H : List Entry) → StandsAt run from
 stops-here run from H stands = record { serial = HasRun-serial stands.has_run; own = stands.own }
 
 -- at most three stores of a reply take effect
-stored-few : (word : ℕ) (found : Option Target) → length (stored word found) ≤ 1
-stored-few word None = omega arith
-stored-few word (Some found) = omega arith
-
 stored_of-few : (snapshot : Snapshot) (store : Option Store) → length (stored_of snapshot store) ≤ 1
 stored_of-few snapshot None = omega arith
-stored_of-few snapshot (Some store) = stored-few store.word (target_of snapshot store.place)
+stored_of-few snapshot (Some store) =
+    elim (target_of snapshot store.place) as (λ found. length (stored store.word found) ≤ 1) [
+      | None ↦ omega arith
+      | Some found ↦ omega arith
+    ]
 
-pub stores-few : (reply : Reply) (snapshot : Snapshot) → length (stores_of reply snapshot) ≤ 3
-stores-few reply snapshot =
-    let one = stored_of snapshot reply.first in
-    let two = stored_of snapshot reply.second in
-    let three = stored_of snapshot reply.third in
-    omega (arith, length-append (one ++ two) three, length-append one two, stored_of-few snapshot reply.first, stored_of-few snapshot reply.second, stored_of-few snapshot reply.third)
+stores-few : (reply : Reply) (snapshot : Snapshot) → length (stores_of reply snapshot) ≤ 3
+stores-few reply snapshot = omega (arith, length-append {A = Stored}, stored_of-few)
 
 -- where no thread can go on and nobody is inside a callback, the run has ended
-caused-whole : (run : Run) (S : State) (value : Option ℤ) → whole_value S.world ≡ value → enabled_among S 0 run.threads ≡ None → none_pending S ≡ true → S.halt ≡ None → cause_of_whole run S value ≡ None → ⊥
-caused-whole run S (Some value) whole none nobody running no_cause = cc
-caused-whole run S None whole none nobody running no_cause =
-    let stuck : is_stuck run S ≡ true = and_from _ _ (and_from _ _ (and_from _ _ (ap is_none none) nobody) (ap is_none running)) (ap is_none whole) in
+caused-by : (run : Run) (S : State) (halt : Option Halt) (value : Option ℤ) → S.halt ≡ halt → whole_value S.world ≡ value
+    → enabled_among S 0 run.threads ≡ None → none_pending S ≡ true → cause_by_halt run S halt ≡ None → ⊥
+caused-by run S (Some halt) value halted whole none nobody no_cause = cc
+caused-by run S None (Some value) halted whole none nobody no_cause =
+    let found : cause_of_whole run S (Some value) ≡ None = rw whole at no_cause in cc
+caused-by run S None None halted whole none nobody no_cause =
+    let stuck : is_stuck run S ≡ true =
+    and_from _ _ (and_from _ _ (and_from _ _ (ap is_none none) nobody) (ap is_none halted)) (ap is_none whole) in
     let deadlock : cause_of_whole run S None ≡ Some cause.Deadlock = rw stuck in
-    cc
-
-caused-halt : (run : Run) (S : State) (halt : Option Halt) → S.halt ≡ halt → enabled_among S 0 run.threads ≡ None → none_pending S ≡ true → cause_by_halt run S halt ≡ None → ⊥
-caused-halt run S (Some halt) halted none nobody no_cause = cc
-caused-halt run S None halted none nobody no_cause = caused-whole run S (whole_value S.world) refl none nobody halted no_cause
+    let found : cause_of_whole run S None ≡ None = rw whole at no_cause in cc
 
 pub caused : (run : Run) (from : ℕ) (H : List Entry) → StandsAt run from H → first_enabled run (after run H) from ≡ None → cause_of run H ≡ None → ⊥
 caused run from H stands over no_cause =
     let S = after run H in
-    caused-halt run S S.halt refl (first_enabled-none run S from stands.within over) stands.nobody no_cause
+    caused-by run S S.halt (whole_value S.world) refl refl (first_enabled-none run S from stands.within over) stands.nobody no_cause
 
 -- where nobody is inside a callback, each thread is in none
 pub all_none-at : (pending : List (Option Callback)) (t : ℕ) → all_none pending ≡ true → slice_index_or pending t None ≡ None
@@ -131,7 +126,8 @@ module _ (run : Run) (from : ℕ) (H K : List Entry) (stands : StandsAt run from
   serves-to serves = record { unheard = None; is_unheard = stands.nobody; serves = serves }
 
   pub serves-all : ServesTo stands_for run parts H others K → Serves stands_for run parts H None others K
-  serves-all served = subst (λ unheard. Serves stands_for run parts H unheard others K) (unheard-none run from K served.unheard stands served.is_unheard) served.serves
+  serves-all served = subst (λ unheard. Serves stands_for run parts H unheard others K)
+      (unheard-none run from K served.unheard stands served.is_unheard) served.serves
 
 -- after a turn, with the calls and the return of its event
 pub record Visited {P : Type 0} (stands_for : P → Record → Type 0) (run : Run) (H : List Entry) (t : ℕ) (parts others : List P) (longer : List Entry) : Type 0 where
@@ -166,7 +162,8 @@ module _ (run : Run) (from : ℕ) (H : List Entry) (t : ℕ) (stands : StandsAt 
   module _ {P : Type 0} (stands_for : P → Record → Type 0) (parts others : List P) where
     -- where the run has come to this state
     visited-at : (next : State) (longer : List Entry) → HasRun run longer (record { state = next; next = t + 1; inside = None }) → none_pending next ≡ true
-        → HearsOwn run longer → (HearsSilent run longer → StoresNothing longer) → Serves stands_for run parts H None others longer → next.turns ≡ now.turns + 1 → Visited stands_for run H t parts others longer
+        → HearsOwn run longer → (HearsSilent run longer → StoresNothing longer) → Serves stands_for run parts H None others longer
+        → next.turns ≡ now.turns + 1 → Visited stands_for run H t parts others longer
     visited-at next longer has nobody own silent serves turned =
         let there : after run longer ≡ next = HasRun-after has in record {
           serves = serves;
@@ -230,8 +227,11 @@ module _ (run : Run) (from : ℕ) (H : List Entry) (t : ℕ) (stands : StandsAt 
         record { seq = length H; thread = t; call = call_of between.world t e; snapshot = snap_of between.world t e; stores = stores }
 
     -- after the answer of the thread's part
-    visited-told : (longer : List Entry) → Answers stands_for (length H) t (call_of between.world t e) (snap_of between.world t e) parts (H ++ go_at t ∷ []) others longer → Visited stands_for run H t parts others longer
-    visited-told longer answers =
+    pub visited-said : (seq : ℕ) → seq ≡ length H → (longer : List Entry)
+        → Answers stands_for seq t call snapshot parts (H ++ go_at t ∷ []) others longer
+        → Visited stands_for run H t parts others longer
+    visited-said seq seq_is longer said_so =
+        let answers = rw (seq_is, ← said.call_is, ← said.snapshot_is) at said_so in
         let stores : List Stored = stores_of answers.reply (snap_of between.world t e) in
         let whole = H ++ event_at t stores in
         let history : longer ≡ whole = answers.history_is ∙ append_assoc H (go_at t ∷ []) (event_reply t stores) in
@@ -240,16 +240,11 @@ module _ (run : Run) (from : ℕ) (H : List Entry) (t : ℕ) (stands : StandsAt 
         let under : t < run.threads = omega (arith, below) in
         let waits = waits-put_all run between t e 0 stores (record { pending = inside-event e said.happens; registered = said.registered }) in
         subst (λ K. Visited stands_for run H t parts others K) (sym history)
-        (visited-event stands_for parts others e said.happens stores (stores-few answers.reply (snap_of between.world t e)) (may-store run H t e stands.some said.happens answers.reply said.registered) waits
+        (visited-event stands_for parts others e said.happens stores (stores-few answers.reply (snap_of between.world t e))
+        (may-store run H t e stands.some said.happens answers.reply said.registered) waits
         (own-told run H whole t (item_with stores) refl under more stands.own)
-        (λ silent. (hears-front run H whole (item_with stores ∷ []) more silent, item-silent run H whole t (item_with stores) refl more under silent))
+        (told-silent run H whole t (item_with stores) refl more under)
         (serves-told stands_for run parts others H whole t (item_with stores) refl more answers.as_many answers.each))
-
-    pub visited-said : (seq : ℕ) → seq ≡ length H → (longer : List Entry) → Answers stands_for seq t call snapshot parts (H ++ go_at t ∷ []) others longer → Visited stands_for run H t parts others longer
-    visited-said seq seq_is longer answers =
-        let one = subst (λ seq. Answers stands_for seq t call snapshot parts (H ++ go_at t ∷ []) others longer) seq_is answers in
-        let two = subst (λ (call : Call). Answers stands_for (length H) t call snapshot parts (H ++ go_at t ∷ []) others longer) (sym said.call_is) one in
-        visited-told longer (subst (λ (snapshot : Snapshot). Answers stands_for (length H) t (call_of between.world t e) snapshot parts (H ++ go_at t ∷ []) others longer) (sym said.snapshot_is) two)
 
     -- where the part found no memory, nothing more was heard, and the history ends inside the callback
     pub serves-said : OnlyUnheard stands_for (Some t) parts others → ServesTo stands_for run parts H others (H ++ go_at t ∷ [])
@@ -287,17 +282,22 @@ module _ (book next : BookView) (from t : ℕ) (stands : StandsAt book.run from 
   }
 
 -- what a run that has stopped has come to
-pub have-served : {P : Type 0} (stands_for : P → Record → Type 0) (Same : P → P → Type 0) (run : Run) (next : ℕ) (reason : Cause) (H : List Entry) (text : List ℕ) (parts others : List P)
-    → ServesTo stands_for run parts [] others H → AreSame Same parts others → StopsAt run H → (reason ≢ cause.Memory → StandsAt run next H) → (reason ≢ cause.Memory → first_enabled run (after run H) next ≡ None)
-    → (reason ≢ cause.Memory → cause_of run H ≡ Some reason) → (reason ≡ cause.Memory → H ≢ []) → text ≡ (after run H).world.store.text → HaveServed stands_for Same true run reason H text parts others
+pub have-served : {P : Type 0} (stands_for : P → Record → Type 0) (Same : P → P → Type 0) (run : Run) (next : ℕ)
+    (reason : Cause) (H : List Entry) (text : List ℕ) (parts others : List P)
+    → ServesTo stands_for run parts [] others H → AreSame Same parts others → StopsAt run H → (reason ≢ cause.Memory → StandsAt run next H)
+    → (reason ≢ cause.Memory → first_enabled run (after run H) next ≡ None)
+    → (reason ≢ cause.Memory → cause_of run H ≡ Some reason) → (reason ≡ cause.Memory → H ≢ []) → text ≡ (after run H).world.store.text
+    → HaveServed stands_for Same true run reason H text parts others
 have-served {P} stands_for Same run next reason H text parts others serves same stops stands over caused begun printed =
-    let heard : reason ≢ cause.Memory → serves.unheard ≡ None = λ found. unheard-none run next H serves.unheard (stands found) serves.is_unheard in record {
+    let heard : reason ≢ cause.Memory → serves.unheard ≡ None =
+    λ found. unheard-none run next H serves.unheard (stands found) serves.is_unheard in record {
       to = record {
         legal = stops.serial.legal;
         ends = caused;
         own = stops.own;
         in_order = λ is. stops.serial;
-        whole = λ is found silent. sym (serial-whole run H (HasRun-whole (stands found).has_run (over found)) ((stands found).silent silent));
+        whole =
+            λ is found silent. sym (serial-whole run H (HasRun-whole (stands found).has_run (over found)) ((stands found).silent silent));
         begun = begun;
       };
       text_is = printed;
@@ -305,7 +305,8 @@ have-served {P} stands_for Same run next reason H text parts others serves same 
       unheard = is_of serves.unheard;
       are_unheard = record { one = serves.unheard; is_unheard = serves.is_unheard; all_heard = heard; unheard_is = λ k. refl };
       all_heard = λ found k below. ap (λ (unheard : Option ℕ). is_of unheard k) (heard found);
-      each = λ k d h below stood. serves.serves.each k d h below (subst (λ (h : Record). stands_for (slice_index_or parts k d) h) (sym (served-nil h)) stood);
+      each = λ k d h below stood. serves.serves.each k d h below
+          (subst (λ (h : Record). stands_for (slice_index_or parts k d) h) (sym (served-nil h)) stood);
       same = same;
     }
 

@@ -6,6 +6,12 @@ use omp_model::{Cause, History};
 pub type Memory = std::alloc::AllocError;
 
 /// What a run gave.
+///
+/// Part t was called for the events of thread t. Part 0 was started before the first entry: what it registered was heard, where it
+/// answered another number than 0, and else nothing. Where it answered another number than 0 it was finished after the last entry.
+///
+/// No clause says when memory is wanting, nor when part 0 was started. That an error comes in place of a run only before the first
+/// entry is to be read. Where the cause is `Memory` the history has an entry.
 #[derive(Drop)]
 pub struct Ran<P> {
     /// Why it ended.

@@ -13,26 +13,19 @@ use std::alloc::{AllocError, Global};
 use step_book::{Book, Closed};
 use tool_api::ToolPart;
 
-/// Runs the program serially, with so many threads, and so many silent steps at most. Part t is called for the events of
-/// thread t.
+/// Runs the program serially. What the parts are called for, and what no clause says, stands at [`Ran`].
 ///
-/// Part 0 is started before the first entry. What it registers is heard, where it answers another number than 0, and else
-/// nothing. Where it answers another number than 0 it is finished after the last entry.
-///
-/// No clause says when memory is wanting, nor when part 0 is started. That an error comes only before the first entry is to be
-/// read. Where the cause is `Memory` the history has an entry, and stops between two turns, or after the Go of an event whose
-/// thread's part found none.
+/// Where the cause is `Memory` the history stops between two turns, or after the Go of an event whose thread's part found none.
 pub fn run_serial<P: ToolPart>(
     alloc: Global,
     program: Program,
     limits: Limits,
-    parts: Vec<P>,
+    mut parts: Vec<P>,
 ) -> Result<Ran<P>, Memory>
     requires { length parts.items ≡ limits.threads }
     ensures ran { IfOk result (λ ran.
         IsRan P.stands_for P.same true (run_of program limits.threads limits.steps ran) parts.items ran) }
 {
-    let mut parts = parts;
     let start = initialize_first(&mut parts);
     let mask = mask_of(start);
     let book = Book::start(alloc, program, mask, limits)?;

@@ -1,11 +1,11 @@
 -- The drivers of a run: as they are started, and once all have come back.
-use Rattle.std.proofs.Common.{◌≡◌, ◌≢◌, ℕ, zero, suc, ◌+◌, ◌<◌, ◌≤◌, Bool, true, false, if◌then◌else◌, List, [], ◌∷◌, ◌++◌, length, length-append, get_or, slice_set, drop, Option, Some, None, refl, sym, ap, subst, ◌∙◌, append_assoc, inl, inr, ◌⊎◌, arith}
-use Rattle.std.proofs.lemmas.Bool.{true≢false, false_from_ne_true, cases_eq, cases_lt, or_left, or_right}
-use Rattle.std.proofs.lemmas.List.{drop_more, get_or_append_left, get_or_at, get_or_default, get_or_push, get_or-set_same, get_or-set_other, length-drop}
+use Rattle.std.proofs.Common.{◌≡◌, ◌≢◌, ℕ, ◌+◌, ◌<◌, ◌≤◌, Bool, true, false, if◌then◌else◌, List, [], ◌∷◌, ◌++◌, length, length-append, get_or, slice_set, drop, Option, Some, None, refl, sym, ap, subst, ◌∙◌, append_assoc, inl, inr, ◌⊎◌, arith}
+use Rattle.std.proofs.lemmas.Bool.{true≢false, false_from_ne_true, cases_eq, cases_lt}
+use Rattle.std.proofs.lemmas.List.{Folds.list_any_at, drop_more, get_or_append_left, get_or_at, get_or_default, get_or_push, get_or-set_same, get_or-set_other, length-drop, length-set}
 use Rattle.omp_model.specs.declared.cause.Cause.TheVariants as causes
 use Rattle.omp_model.proofs.MadeRuns.{at-replicate}
 use Rattle.step_book.{specs.Rule.NoneBy, specs.Sharing.AreOwn, specs.Sharing.IsClosed, specs.Sharing.any_ended, specs.Sharing.fresh_pass, proofs.Others.entries-append, proofs.Others.holds-others, proofs.Others.own-back}
-use Rattle.team_run.specs.Names.{Record, Cause, Callback, Entry, Run, first, pending_at, cause_of, heard_of, after, Closed, NotBy, entries_of, PassView}
+use Rattle.team_run.specs.Names.{Record, Cause, Callback, Entry, Run, first, pending_at, cause_of, heard_of, after, Closed, entries_of, PassView}
 use Rattle.team_run.{specs.Serving.called_for, specs.Unheard.LeftAt, specs.Standing.HearsOwn, proofs.Serving.served-nil}
 use Rattle.thread_run.specs.Drivers.{AreDrivers, AreFor, AreKept, HasServed, IsDriver}
 use Rattle.thread_run.{specs.Driving.IsDriven, proofs.Driving.heard-others, proofs.Driving.left-others}
@@ -22,7 +22,8 @@ module _ {L : Type 0} (all yielded behind rest : List L) (one : L) (whole : yiel
   item-below = omega (arith, ap (λ (all : List L). length all) (sym whole ∙ ap (λ more. yielded ++ more) next), length-append yielded (one ∷ rest))
 
   -- one more has come back
-  pub finish-more : {P : Type 0} (stands_for : P → Record → Type 0) (Same : P → P → Type 0) (run : Run) (is : ℕ → P → L → Type 0) (first : List P) (passes : List PassView) (parts : List P) (pass : PassView) (part : P)
+  pub finish-more : {P : Type 0} (stands_for : P → Record → Type 0) (Same : P → P → Type 0) (run : Run)
+      (is : ℕ → P → L → Type 0) (first : List P) (passes : List PassView) (parts : List P) (pass : PassView) (part : P)
       → length passes ≡ length yielded → length parts ≡ length yielded → AreFor is first all → AreDrivers stands_for Same run first passes parts
       → ((t : ℕ) (whose : P) → is t whose one → IsDriver stands_for Same run t whose pass part) → AreDrivers stands_for Same run first (passes ++ pass ∷ []) (parts ++ part ∷ [])
   finish-more stands_for Same run is first passes parts pass part passed parted are there goes k d e f below = elim (cases_eq k (length yielded)) [
@@ -34,33 +35,31 @@ module _ {L : Type 0} (all yielded behind rest : List L) (one : L) (whole : yiel
   ]
 
 module _ {P : Type 0} (stands_for : P → Record → Type 0) (Same : P → P → Type 0) (run : Run) where
-  -- a driver before its first visit
-  driver-first : ((part : P) → Same part part) → (t : ℕ) (first_part part : P) (pass : PassView) → pass ≡ fresh_pass t → part ≡ first_part → IsDriver stands_for Same run t first_part pass part
-  driver-first itself t first_part part pass fresh same =
-      let outside : pending_at (first run) t ≡ None = at-replicate (λ (callback : Option Callback). callback ≡ None) run.threads t None refl in
-      let driven : IsDriven stands_for Same run first_part (fresh_pass t) first_part = record {
+  -- the drivers before their first visits
+  pub drivers-first : ((part : P) → Same part part) → (parts : List P) (passes : List PassView) → length parts ≡ run.threads
+      → length passes ≡ run.threads → ((k : ℕ) (d : PassView) → k < run.threads → get_or passes k d ≡ fresh_pass k)
+      → AreDrivers stands_for Same run parts passes parts
+  drivers-first itself parts passes many count fresh k d e f below =
+      let one = get_or parts k e in
+      let outside : pending_at (first run) k ≡ None =
+      at-replicate (λ (callback : Option Callback). callback ≡ None) run.threads k None refl in
+      let driven : IsDriven stands_for Same run one (fresh_pass k) one = record {
         unheard = false;
         left = outside;
         over = λ said. absurd (true≢false (sym said));
-        hears = λ h stands. subst (λ (h : Record). stands_for first_part h) (sym (served-nil h)) stands;
-        same_is = itself first_part;
+        hears = λ h stands. subst (λ (h : Record). stands_for one h) (sym (served-nil h)) stands;
+        same_is = itself one;
       } in
-      rw (fresh, same) (record { thread = refl; driven = driven })
-
-  -- all of them
-  pub drivers-first : ((part : P) → Same part part) → (parts : List P) (passes : List PassView) → length parts ≡ run.threads → length passes ≡ run.threads → ((k : ℕ) (d : PassView) → k < run.threads → get_or passes k d ≡ fresh_pass k)
-      → AreDrivers stands_for Same run parts passes parts
-  drivers-first itself parts passes many count fresh k d e f below =
-      driver-first itself k (get_or parts k e) (get_or parts k f) (get_or passes k d) (fresh k d (omega (arith, below, count))) (get_or_default parts k f e (omega (arith, below, count, many)))
+      rw (fresh k d (omega (arith, below, count)), get_or_default parts k f e (omega (arith, below, count, many)))
+      (record { thread = refl; driven = driven })
 
   -- the next driver, where a loop has gone through the passes and parts up to it
-  pub driver-next : (all yielded behind rest : List PassView) (pass : PassView) → yielded ++ behind ≡ all → behind ≡ pass ∷ rest → (parts : List P) (part : P) (n : ℕ) → n ≡ length yielded → ((d : P) → part ≡ get_or parts (length yielded) d)
+  pub driver-next : (all yielded behind rest : List PassView) (pass : PassView) → yielded ++ behind ≡ all → behind ≡ pass ∷ rest
+      → (parts : List P) (part : P) (n : ℕ) → n ≡ length yielded → ((d : P) → part ≡ get_or parts (length yielded) d)
       → AreDrivers stands_for Same run parts all parts → (e : P) → IsDriver stands_for Same run n (get_or parts n e) pass part
   driver-next all yielded behind rest pass whole next parts part n same is are e =
-      let here = are (length yielded) pass e e (item-below all yielded behind rest pass whole next) in
-      subst (λ k. IsDriver stands_for Same run k (get_or parts k e) pass part) (sym same)
-      (subst (λ part. IsDriver stands_for Same run (length yielded) (get_or parts (length yielded) e) pass part) (sym (is e))
-      (subst (λ pass. IsDriver stands_for Same run (length yielded) (get_or parts (length yielded) e) pass (get_or parts (length yielded) e)) (item-at all yielded behind rest pass whole next pass) here))
+      rw (same, is e, ← item-at all yielded behind rest pass whole next pass)
+      (are (length yielded) pass e e (item-below all yielded behind rest pass whole next))
 
 -- one more of a list
 pub for-more : {P L : Type 0} (is : ℕ → P → L → Type 0) (parts : List P) (slots : List L) (slot : L) → AreFor is parts slots → ((e : P) → is (length slots) (get_or parts (length slots) e) slot) → AreFor is parts (slots ++ slot ∷ [])
@@ -70,16 +69,25 @@ for-more is parts slots slot each one k d e below = elim (cases_eq k (length slo
 ]
 
 -- a list of which one was changed
-pub kept-set : {P L : Type 0} (is : ℕ → P → L → Type 0) (slots others : List L) (place : ℕ) (none next : L) → AreKept is slots others → length others ≡ length slots → place < length others
-    → ((t : ℕ) (whose : P) → is t whose (get_or others place none) → is t whose next) → AreKept is slots (slice_set others place next)
-kept-set is slots others place none next kept as_many within goes k d t whose below there = elim (cases_eq k place) [
-  | inl here ↦ rw (here, get_or-set_same others place next d within) (goes t whose (subst (λ slot. is t whose slot) (get_or_default others place d none within) (subst (λ k. is t whose (get_or others k d)) here (kept k d t whose below there))))
-  | inr other ↦ rw (get_or-set_other others place k next d other) (kept k d t whose below there)
-]
+pub kept-set : {P L : Type 0} (is : ℕ → P → L → Type 0) (slots others : List L) (place : ℕ) (none next : L) → AreKept is slots others
+    → place < length others → ((t : ℕ) (whose : P) → is t whose (get_or others place none) → is t whose next)
+    → AreKept is slots (slice_set others place next)
+kept-set is slots others place none next kept within goes = record {
+  as_many = length-set others place next ∙ kept.as_many;
+  each = λ k d t whose below there. elim (cases_eq k place) [
+    | inl here ↦ rw (here, get_or-set_same others place next d within)
+        (goes t whose (rw (here, get_or_default others place d none within) at (kept.each k d t whose below there)))
+    | inr other ↦ rw (get_or-set_other others place k next d other) (kept.each k d t whose below there)
+  ];
+}
 
 -- a list that was changed twice
-pub kept-then : {P L : Type 0} (is : ℕ → P → L → Type 0) (slots between others : List L) → length between ≡ length slots → AreKept is slots between → AreKept is between others → AreKept is slots others
-kept-then is slots between others as_many one two k d t whose below there = two k d t whose (omega (arith, below, as_many)) (one k d t whose below there)
+pub kept-then : {P L : Type 0} (is : ℕ → P → L → Type 0) (slots between others : List L) → AreKept is slots between
+    → AreKept is between others → AreKept is slots others
+kept-then is slots between others one two = record {
+  as_many = two.as_many ∙ one.as_many;
+  each = λ k d t whose below there. two.each k d t whose (omega (arith, below, one.as_many)) (one.each k d t whose below there);
+}
 
 -- What a closed book says.
 
@@ -90,14 +98,10 @@ hears-own run passes history closed k past =
     ap (λ history. heard_of run history k) closed.entries ∙ heard-others run [] (entries_of closed.all) k (holds-others k closed.all closed.own others)
 
 -- the cause that is known is the history's, where no pass has ended the run for want of memory
-cause-known : (ended : Bool) (cause : Cause) (found : Option Cause) → Some cause ≡ (if ended then Some causes.Memory else found) → cause ≢ causes.Memory → found ≡ Some cause
+cause-known : (ended : Bool) (cause : Cause) (found : Option Cause) → Some cause ≡ (if ended then Some causes.Memory else found)
+    → cause ≢ causes.Memory → found ≡ Some cause
 cause-known true cause found is other = let same : cause ≡ causes.Memory = cc in absurd (other same)
 cause-known false cause found is other = sym is
-
-any-at : (passes : List PassView) (k : ℕ) (d : PassView) → k < length passes → (get_or passes k d).ended ≡ true → any_ended passes ≡ true
-any-at [] k d below ended = absurd (omega arith)
-any-at (pass ∷ rest) zero d below ended = or_left pass.ended (any_ended rest) ended
-any-at (pass ∷ rest) (suc k) d below ended = or_right pass.ended (any_ended rest) (any-at rest k d (omega arith) ended)
 
 module _ {P : Type 0} (stands_for : P → Record → Type 0) (Same : P → P → Type 0) (run : Run) (parts others : List P) (passes : List PassView) (closed : Closed) (p : P)
     (count : length parts ≡ run.threads) (passed : length passes ≡ run.threads) (back : length others ≡ run.threads)
@@ -109,49 +113,47 @@ module _ {P : Type 0} (stands_for : P → Record → Type 0) (Same : P → P →
   driver : (k : ℕ) → k < run.threads → IsDriver stands_for Same run k (get_or parts k p) (get_or passes k none) (get_or others k p)
   driver k below = drivers k none p p (omega (arith, below, passed))
 
-  -- what stands in the history beyond what a pass has seen is others'
-  record Beyond (k : ℕ) : Type 0 where
-    more : List Entry
-    whole : closed.history ≡ entries_of (get_or passes k none).seen ++ more
-    not_by : NotBy k more
-
-  beyond : (k : ℕ) → k < run.threads → Beyond k
-  beyond k below =
-      let begins = is_closed.begins k none below in
-      let seen = (get_or passes k none).seen in record {
-        more = entries_of begins.rest;
-        whole = is_closed.entries ∙ ap entries_of begins.whole ∙ entries-append seen begins.rest;
-        not_by = holds-others k begins.rest (own-back seen begins.rest (subst AreOwn begins.whole is_closed.own)) begins.others;
-      }
-
   abbrev unheard-by : (k : ℕ) → (k < run.threads) ⊎ (run.threads ≤ k) → Bool
   unheard-by k (inl below) = (driver k below).driven.unheard
   unheard-by k (inr past) = false
 
-  left-by : (k : ℕ) (c : (k < run.threads) ⊎ (run.threads ≤ k)) → k < run.threads → LeftAt run closed.history k (unheard-by k c)
-  left-by k (inl below) less =
-      let b = beyond k below in
-      let d = driver k below in
-      subst (λ history. LeftAt run history k d.driven.unheard) (sym b.whole) (left-others run (entries_of (get_or passes k none).seen) b.more k d.driven.unheard b.not_by (rw d.thread at d.driven.left))
-  left-by k (inr past) less = absurd (omega arith)
+  -- what the driver of a thread has come to, by the whole history
+  record HasEnded (k : ℕ) (unheard : Bool) : Type 0 where
+    left : LeftAt run closed.history k unheard
+    heard : closed.cause ≢ Some causes.Memory → unheard ≡ false
+    hears : (d : P) (h : Record) → stands_for (get_or parts k d) h
+        → stands_for (get_or others k d) (called_for (heard_of run closed.history k) unheard h)
 
-  heard-by : (k : ℕ) (c : (k < run.threads) ⊎ (run.threads ≤ k)) → closed.cause ≢ Some causes.Memory → k < run.threads → unheard-by k c ≡ false
-  heard-by k (inl below) other less = false_from_ne_true (driver k below).driven.unheard (λ unheard. other (cause_is ∙ rw (any-at passes k none (omega (arith, below, passed)) ((driver k below).driven.over unheard)) refl))
-  heard-by k (inr past) other less = absurd (omega arith)
-
-  each-by : (k : ℕ) (c : (k < run.threads) ⊎ (run.threads ≤ k)) (d : P) (h : Record) → k < length parts → stands_for (get_or parts k d) h → stands_for (get_or others k d) (called_for (heard_of run closed.history k) (unheard-by k c) h)
-  each-by k (inl below) d h less stands =
-      let b = beyond k below in
+  -- what stands there beyond what its pass has seen is others'
+  has-ended : (k : ℕ) (c : (k < run.threads) ⊎ (run.threads ≤ k)) → k < run.threads → HasEnded k (unheard-by k c)
+  has-ended k (inl below) less =
       let one = driver k below in
-      let from = subst (λ part. stands_for part h) (get_or_default parts k d p less) stands in
-      let hears = rw one.thread at (one.driven.hears h from) in
-      let same : heard_of run closed.history k ≡ heard_of run (entries_of (get_or passes k none).seen) k = ap (λ history. heard_of run history k) b.whole ∙ heard-others run (entries_of (get_or passes k none).seen) b.more k b.not_by in
-      subst (λ part. stands_for part (called_for (heard_of run closed.history k) one.driven.unheard h)) (get_or_default others k p d (omega (arith, below, back))) (rw same hears)
-  each-by k (inr past) d h less stands = absurd (omega arith)
+      let begins = is_closed.begins k none below in
+      let seen = (get_or passes k none).seen in
+      let more = entries_of begins.rest in
+      let whole : closed.history ≡ entries_of seen ++ more =
+      is_closed.entries ∙ ap entries_of begins.whole ∙ entries-append seen begins.rest in
+      let not_by = holds-others k begins.rest (own-back seen begins.rest (subst AreOwn begins.whole is_closed.own)) begins.others in
+      let same : heard_of run closed.history k ≡ heard_of run (entries_of seen) k =
+      ap (λ history. heard_of run history k) whole ∙ heard-others run (entries_of seen) more k not_by in record {
+        left = subst (λ history. LeftAt run history k one.driven.unheard) (sym whole)
+            (left-others run (entries_of seen) more k one.driven.unheard not_by (rw one.thread at one.driven.left));
+        heard = λ other. false_from_ne_true one.driven.unheard (λ unheard.
+            let over = one.driven.over unheard in
+            let ended = list_any_at (λ (pass : PassView). pass.ended) passes k none (omega (arith, below, passed)) over in
+            other (cause_is ∙ rw ended refl));
+        hears = λ d h stands.
+            let from = subst (λ part. stands_for part h) (get_or_default parts k d p (omega (arith, below, count))) stands in
+            let hears = rw one.thread at (one.driven.hears h from) in
+            subst (λ part. stands_for part (called_for (heard_of run closed.history k) one.driven.unheard h))
+            (get_or_default others k p d (omega (arith, below, back))) (rw same hears);
+      }
+  has-ended k (inr past) less = absurd (omega arith)
 
   pub have-served : HasServed stands_for Same run closed parts others
   have-served cause known begun =
-      let other : cause ≢ causes.Memory → closed.cause ≢ Some causes.Memory = λ found is. let same : Some cause ≡ Some causes.Memory = sym (known found) ∙ is in found cc in
+      let other : cause ≢ causes.Memory → closed.cause ≢ Some causes.Memory =
+      λ found is. let same : Some cause ≡ Some causes.Memory = sym (known found) ∙ is in found cc in
       record {
         to = record {
           legal = is_closed.legal;
@@ -164,9 +166,9 @@ module _ {P : Type 0} (stands_for : P → Record → Type 0) (Same : P → P →
         text_is = text;
         as_many = back ∙ sym count;
         unheard = λ k. unheard-by k (cases_lt k run.threads);
-        are_unheard = λ k below. left-by k (cases_lt k run.threads) below;
-        all_heard = λ found k below. heard-by k (cases_lt k run.threads) (other found) below;
-        each = λ k d h below stands. each-by k (cases_lt k run.threads) d h below stands;
+        are_unheard = λ k below. (has-ended k (cases_lt k run.threads) below).left;
+        all_heard = λ found k below. (has-ended k (cases_lt k run.threads) below).heard (other found);
+        each = λ k d h below stands. (has-ended k (cases_lt k run.threads) (omega (arith, below, count))).hears d h stands;
         same = record {
           each = λ k d below.
               subst (λ part. Same (get_or parts k d) part) (sym (get_or_default others k d p (omega (arith, below, count, back))))
@@ -175,9 +177,10 @@ module _ {P : Type 0} (stands_for : P → Record → Type 0) (Same : P → P →
       }
 
 -- what is so of each is so of each that was kept
-pub for-kept : {P L : Type 0} (is : ℕ → P → L → Type 0) (parts : List P) (slots others : List L) → length others ≡ length slots → AreFor is parts slots → AreKept is slots others → AreFor is parts others
-for-kept is parts slots others as_many each kept k d e below =
-    let less : k < length slots = omega (arith, below, as_many) in kept k d k (get_or parts k e) less (each k d e less)
+pub for-kept : {P L : Type 0} (is : ℕ → P → L → Type 0) (parts : List P) (slots others : List L) → AreFor is parts slots
+    → AreKept is slots others → AreFor is parts others
+for-kept is parts slots others each kept k d e below =
+    let less : k < length slots = omega (arith, below, kept.as_many) in kept.each k d k (get_or parts k e) less (each k d e less)
 
 -- the rest of a list from a place on, and the next item
 pub rest-next : {P : Type 0} (parts rest more : List P) (n : ℕ) (part : P) → rest ≡ drop n parts → rest ≡ part ∷ more → (more ≡ drop (n + 1) parts) × ((d : P) → part ≡ get_or parts n d)

@@ -3,14 +3,13 @@ use Rattle.std.proofs.Common.{◌≡◌, ℕ, ◌+◌, ◌<◌, Bool, true, fals
 use Rattle.std.{specs.Result.IsOk, proofs.lemmas.Bool.true≢false, proofs.lemmas.Bool.false_from_ne_true, proofs.lemmas.Bool.cases_lt, proofs.lemmas.List.get_or_past, proofs.lemmas.List.length-set, proofs.lemmas.List.length-replicate}
 use Rattle.omp_model.specs.declared.cause.Cause.TheVariants as causes
 use Rattle.omp_model.specs.declared.event.Outcome.TheVariants as outcome
-use Rattle.omp_model.{specs.Cause.cause_of, specs.Heard.has_back, specs.Legal.AllowsFrom, specs.Storing.back_at, specs.Storing.puts_at, proofs.Turns.leaves-turn, proofs.Turns.turn-goes}
-use Rattle.step_book.specs.Visit.{Visit, idle_by, idle_step, is_turn, visit}
+use Rattle.omp_model.{specs.Cause.cause_of, specs.Legal.AllowsFrom, specs.Storing.back_at, specs.Storing.puts_at, proofs.Turns.leaves-turn, proofs.Turns.turn-goes}
+use Rattle.step_book.specs.Visit.{Visit, idle_by, is_turn, turn_visit, visit}
 use Rattle.step_book.{specs.declared.hold.Hold.Hold, specs.declared.step.Step.TheVariants.Quiet, specs.declared.step.Step.TheVariants.NotYet, specs.declared.step.Step.TheVariants.Ended, specs.Sharing.AnswersThen, specs.Sharing.VisitsAfterOthers, specs.Sharing.IsHold, specs.Steps.hold_by, proofs.Histories.after-append, proofs.Others.entries-append, proofs.Others.entries-others, proofs.Others.not_by-append}
 use Rattle.step_book.{proofs.Others.owes-still, proofs.Telling.ended-step, proofs.Telling.not_yet-step, proofs.Telling.quiet-step, proofs.Telling.told-step, proofs.Visiting.visit-idle, proofs.Visiting.visit-turn}
-use Rattle.team_run.specs.Names.{Call, Reply, Snapshot, Item, item_of, is_registered, Stored, stores_of, Record, one_unheard, told, Cause, Callback, Event, Entry, Run, State, first, pending_at, call_of, callback_of, heard_of, Legal, after, after_from, back, back_from, entered, inside_after, snap_of, event_reply, go_at, turn, Step, Told, NotBy, Owes, BookView, state_of, entries_of, AddsHold, PassView, book_after}
-use Rattle.team_run.specs.Names.{turn_visit}
-use Rattle.team_run.{specs.Serving.served, specs.Unheard.LeftAt, proofs.Visiting.same-pending}
-use Rattle.thread_run.proofs.Hearing.{answered, back-append, back-others, heard-split, heard_on, more-without}
+use Rattle.team_run.specs.Names.{Call, Reply, Snapshot, item_of, is_registered, stores_of, Record, one_unheard, told, Cause, Callback, Event, Entry, Run, State, first, pending_at, callback_of, heard_of, Legal, after, after_from, back, back_from, entered, inside_after, event_reply, go_at, turn, Step, Told, NotBy, Owes, BookView, state_of, entries_of, AddsHold, PassView, book_after}
+use Rattle.team_run.{specs.Serving.called_for, specs.Serving.served, specs.Unheard.LeftAt, proofs.Visiting.same-pending}
+use Rattle.thread_run.proofs.Hearing.{answered, back-others, heard-split, heard_on, item_with, more-without}
 use Rattle.thread_run.specs.Driving.{HasCome, HasStep, IsDriven, IsInside}
 
 -- Entries that leave a thread as it was.
@@ -57,41 +56,37 @@ calm-untold run history t event below outside happens unregistered =
       outside = ap (λ (S : State). pending_at S t) (after-append run (first run) history (go_at t ∷ back_at t ∷ [])) ∙ back-outside (turn run S t).state t;
     }
 
-calm-turn : (book : BookView) (t : ℕ) → t < book.run.threads → pending_at (state_of book) t ≡ None → (step : Step) → (turn_visit book t).step ≡ step → ((seq : ℕ) (call : Call) (snapshot : Snapshot) → (turn_visit book t).step ≡ Told seq call snapshot → ⊥) → IsCalm book.run book.history (turn_visit book t).added t
-calm-turn book t below outside (Told seq call snapshot) is none = absurd (none seq call snapshot is)
-calm-turn book t below outside Quiet is none = elim (quiet-step book t is) [
+-- what a visit adds that comes to this step: the thread has heard no more, and is inside no callback where no event is told
+abbrev Adds : Run → List Entry → List Entry → ℕ → Step → Type 0
+Adds run history added t (Told seq call snapshot) = heard_of run (history ++ added) t ≡ heard_of run history t
+Adds run history added t other = IsCalm run history added t
+
+turn-adds : (book : BookView) (t : ℕ) → t < book.run.threads → pending_at (state_of book) t ≡ None → (step : Step)
+    → (turn_visit book t).step ≡ step → Adds book.run book.history (turn_visit book t).added t step
+turn-adds book t below outside (Told seq call snapshot) is =
+    rw (told-step book t seq call snapshot is).added_is (more-without book.run (first book.run) 0 t book.history (go_at t ∷ []) refl)
+turn-adds book t below outside Quiet is = elim (quiet-step book t is) [
   | inl alone ↦ rw alone.added_is (calm-alone book.run book.history t outside alone.none)
   | inr untold ↦ rw untold.added_is (calm-untold book.run book.history t untold.is_untold.event below outside untold.is_untold.happens untold.is_untold.unregistered)
 ]
-calm-turn book t below outside NotYet is none = absurd (not_yet-step book t is)
-calm-turn book t below outside (Ended cause) is none =
+turn-adds book t below outside NotYet is = absurd (not_yet-step book t is)
+turn-adds book t below outside (Ended cause) is =
     let alone = ended-step book t cause is in rw alone.added_is (calm-alone book.run book.history t outside alone.none)
 
--- a visit that tells of no event
-calm-visit : (book : BookView) (t : ℕ) → t < book.run.threads → pending_at (state_of book) t ≡ None → ((seq : ℕ) (call : Call) (snapshot : Snapshot) → (visit book t).step ≡ Told seq call snapshot → ⊥) → IsCalm book.run book.history (visit book t).added t
-calm-visit book t below outside none = elim (is_turn book t) as (λ b. is_turn book t ≡ b → IsCalm book.run book.history (visit book t).added t) [
-  | true ↦ λ is.
-      let same = visit-turn book t is in
-      subst (λ (v : Visit). IsCalm book.run book.history v.added t) (sym same) (calm-turn book t below outside (turn_visit book t).step refl (λ seq call snapshot told. none seq call snapshot (ap (λ (v : Visit). v.step) same ∙ told)))
-  | false ↦ λ is. subst (λ (v : Visit). IsCalm book.run book.history v.added t) (sym (visit-idle book t is)) (calm-none book.run book.history t outside)
-] refl
+idle-adds : (book : BookView) (t : ℕ) → pending_at (state_of book) t ≡ None → (ended : Bool) (cause : Option Cause)
+    → Adds book.run book.history [] t (if◌then◌else◌ {A = Step} ended (Ended causes.Memory) (idle_by cause))
+idle-adds book t outside true cause = calm-none book.run book.history t outside
+idle-adds book t outside false (Some cause) = calm-none book.run book.history t outside
+idle-adds book t outside false None = calm-none book.run book.history t outside
 
--- a visit that tells of an event has its Go
-idle-untold : (book : BookView) (seq : ℕ) (call : Call) (snapshot : Snapshot) → idle_step book ≡ Told seq call snapshot → ⊥
-idle-untold book seq call snapshot = by book.ended (cause_of book.run book.history)
-  where
-    by : (ended : Bool) (cause : Option Cause) → (if◌then◌else◌ {A = Step} ended (Ended causes.Memory) (idle_by cause)) ≡ Told seq call snapshot → ⊥
-    by true cause told = cc
-    by false (Some cause) told = cc
-    by false None told = cc
-
-told-added : (book : BookView) (t seq : ℕ) (call : Call) (snapshot : Snapshot) → (visit book t).step ≡ Told seq call snapshot → (visit book t).added ≡ go_at t ∷ []
-told-added book t seq call snapshot told = elim (is_turn book t) as (λ b. is_turn book t ≡ b → (visit book t).added ≡ go_at t ∷ []) [
-  | true ↦ λ is.
-      let same = visit-turn book t is in
-      ap (λ (v : Visit). v.added) same ∙ (told-step book t seq call snapshot (sym (ap (λ (v : Visit). v.step) same) ∙ told)).added_is
-  | false ↦ λ is. absurd (idle-untold book seq call snapshot (sym (ap (λ (v : Visit). v.step) (visit-idle book t is)) ∙ told))
-] refl
+visit-adds : (book : BookView) (t : ℕ) → t < book.run.threads → pending_at (state_of book) t ≡ None
+    → Adds book.run book.history (visit book t).added t (visit book t).step
+visit-adds book t below outside =
+    let adds = λ (v : Visit). Adds book.run book.history v.added t v.step in
+    elim (is_turn book t) as (λ b. is_turn book t ≡ b → Adds book.run book.history (visit book t).added t (visit book t).step) [
+      | true ↦ λ is. subst adds (sym (visit-turn book t is)) (turn-adds book t below outside (turn_visit book t).step refl)
+      | false ↦ λ is. subst adds (sym (visit-idle book t is)) (idle-adds book t outside book.ended (cause_of book.run book.history))
+    ] refl
 
 -- the history that the pass has seen after a hold
 pub hold-entries : (before later : PassView) (between : List Hold) (entries : List Entry) → IsHold before later between entries → entries_of later.seen ≡ (entries_of before.seen ++ entries_of between) ++ entries
@@ -104,7 +99,9 @@ hold-entries before later between entries hold =
 pub left-others : (run : Run) (history more : List Entry) (t : ℕ) (unheard : Bool) → NotBy t more → LeftAt run history t unheard → LeftAt run (history ++ more) t unheard
 left-others run history more t true none left =
     record { seq = left.seq; call = left.call; snapshot = left.snapshot; owes = owes-still run history more t left.seq left.call left.snapshot left.owes none }
-left-others run history more t false none left = ap (λ (S : State). pending_at S t) (after-append run (first run) history more) ∙ entries-others run (after run history) t more none ∙ left
+left-others run history more t false none left =
+    ap (λ (S : State). pending_at S t) (after-append run (first run) history more) ∙ entries-others run (after run history) t more none
+    ∙ left
 
 pub heard-others : (run : Run) (history more : List Entry) (t : ℕ) → NotBy t more → heard_of run (history ++ more) t ≡ heard_of run history t
 heard-others run history more t none = more-without run (first run) 0 t history more (back-others t more none)
@@ -121,65 +118,37 @@ module _ {P : Type 0} (stands_for : P → Record → Type 0) (Same : P → P →
   abbrev Inside : PassView → P → Type 0
   Inside pass part = IsInside stands_for Same run whose pass part
 
-  -- others' entries change nothing
-  pub driven-others : (pass later : PassView) (part : P) (more : List Entry) → NotBy pass.thread more → later.thread ≡ pass.thread → entries_of later.seen ≡ entries_of pass.seen ++ more → (pass.ended ≡ true → later.ended ≡ true) → Driven pass part → Driven later part
-  driven-others pass later part more none thread seen ended driven = record {
-    unheard = driven.unheard;
-    left = rw (seen, thread) (left-others run (entries_of pass.seen) more pass.thread driven.unheard none driven.left);
-    over = λ unheard. ended (driven.over unheard);
-    hears = λ h stands. rw (seen, thread, heard-others run (entries_of pass.seen) more pass.thread none) (driven.hears h stands);
-    same_is = driven.same_is;
-  }
-
   -- a hold without an entry
-  pub driven-grown : (pass later : PassView) (part : P) → AddsHold pass later [] → (pass.ended ≡ true → later.ended ≡ true) → Driven pass part → Driven later part
+  driven-later : (pass later : PassView) (part : P) (unheard : Bool) → AddsHold pass later [] → (unheard ≡ true → later.ended ≡ true)
+      → LeftAt run (entries_of pass.seen) pass.thread unheard → ((h : Record) → stands_for whose h
+      → stands_for part (called_for (heard_of run (entries_of pass.seen) pass.thread) unheard h)) → Same whose part → Driven later part
+  driven-later pass later part unheard grows over left hears same =
+      let more = entries_of grows.between in
+      let seen : entries_of later.seen ≡ entries_of pass.seen ++ more =
+      hold-entries pass later grows.between [] grows.is_hold ∙ append-nil _ in record {
+        unheard = unheard;
+        left = rw (seen, grows.is_hold.thread) (left-others run (entries_of pass.seen) more pass.thread unheard grows.is_hold.not_by left);
+        over = over;
+        hears = λ h stands. rw (seen, grows.is_hold.thread, heard-others run (entries_of pass.seen) more pass.thread grows.is_hold.not_by)
+            (hears h stands);
+        same_is = same;
+      }
+
+  driven-grown : (pass later : PassView) (part : P) → AddsHold pass later [] → (pass.ended ≡ true → later.ended ≡ true) → Driven pass part
+      → Driven later part
   driven-grown pass later part grows ended driven =
-      driven-others pass later part (entries_of grows.between) grows.is_hold.not_by grows.is_hold.thread (hold-entries pass later grows.between [] grows.is_hold ∙ append-nil _) ended driven
+      driven-later pass later part driven.unheard grows (λ unheard. ended (driven.over unheard)) driven.left driven.hears driven.same_is
 
   -- a pass that hasn't ended the run is inside no callback
-  not-unheard : (pass : PassView) (part : P) → pass.ended ≡ false → (driven : Driven pass part) → driven.unheard ≡ false
-  not-unheard pass part ended driven = false_from_ne_true driven.unheard (λ is. true≢false (sym (driven.over is) ∙ ended))
-
-  pub outside-of : (pass : PassView) (part : P) → pass.ended ≡ false → Driven pass part → pending_at (after run (entries_of pass.seen)) pass.thread ≡ None
-  outside-of pass part ended driven = rw (not-unheard pass part ended driven) at driven.left
-
-  pub inside-of : (pass : PassView) (part : P) → pass.ended ≡ false → Driven pass part → Inside pass part
-  inside-of pass part ended driven = record { hears = rw (not-unheard pass part ended driven) at driven.hears; same_is = driven.same_is }
+  open-of : (pass : PassView) (part : P) → pass.ended ≡ false → Driven pass part
+      → (pending_at (after run (entries_of pass.seen)) pass.thread ≡ None) × Inside pass part
+  open-of pass part ended driven =
+      let heard : driven.unheard ≡ false = false_from_ne_true driven.unheard (λ is. true≢false (sym (driven.over is) ∙ ended)) in
+      (rw heard at driven.left, record { hears = rw heard at driven.hears; same_is = driven.same_is })
 
   pub driven-open : (pass : PassView) (part : P) → pending_at (after run (entries_of pass.seen)) pass.thread ≡ None → Inside pass part → Driven pass part
   driven-open pass part outside inside =
       record { unheard = false; left = outside; over = λ same. absurd (true≢false (sym same)); hears = inside.hears; same_is = inside.same_is }
-
-  -- a visit that tells of no event
-  pub driven-quiet : (pass later : PassView) (part : P) (step : Step) → pass.thread < run.threads → pass.ended ≡ false → VisitsAfterOthers run pass step later
-      → ((seq : ℕ) (call : Call) (snapshot : Snapshot) → step ≡ Told seq call snapshot → ⊥) → Driven pass part → Driven later part
-  driven-quiet pass later part step below ended goes none driven =
-      let book = book_after run (pass.seen ++ goes.between) goes.ended in
-      let front = entries_of pass.seen ++ entries_of goes.between in
-      let t = pass.thread in
-      let whole : book.history ≡ front = entries-append pass.seen goes.between in
-      let outside : pending_at (after run book.history) t ≡ None = rw whole (left-others run (entries_of pass.seen) (entries_of goes.between) t false goes.is_hold.not_by (outside-of pass part ended driven)) in
-      let calm = calm-visit book t below outside (λ seq call snapshot told. none seq call snapshot (goes.step_is ∙ told)) in
-      let seen : entries_of later.seen ≡ book.history ++ (visit book t).added = hold-entries pass later goes.between (visit book t).added goes.is_hold ∙ ap (λ front. front ++ (visit book t).added) (sym whole) in
-      let inside = inside-of pass part ended driven in
-      let same : heard_of run (entries_of later.seen) later.thread ≡ heard_of run (entries_of pass.seen) t = rw (seen, goes.is_hold.thread) (calm.same ∙ rw whole (heard-others run (entries_of pass.seen) (entries_of goes.between) t goes.is_hold.not_by)) in
-      driven-open later part (rw (seen, goes.is_hold.thread) calm.outside) (record { hears = λ h stands. rw same (inside.hears h stands); same_is = inside.same_is })
-
-  -- a visit that tells of one
-  pub inside-told : (pass later : PassView) (part : P) (seq : ℕ) (call : Call) (snapshot : Snapshot) → pass.ended ≡ false → VisitsAfterOthers run pass (Told seq call snapshot) later → Driven pass part → Inside later part
-  inside-told pass later part seq call snapshot ended goes driven =
-      let book = book_after run (pass.seen ++ goes.between) goes.ended in
-      let t = pass.thread in
-      let inside = inside-of pass part ended driven in
-      let more = entries_of goes.between ++ go_at t ∷ [] in
-      let seen : entries_of later.seen ≡ entries_of pass.seen ++ more =
-      hold-entries pass later goes.between (visit book t).added goes.is_hold ∙ ap (λ added. (entries_of pass.seen ++ entries_of goes.between) ++ added) (told-added book t seq call snapshot (sym goes.step_is)) ∙ append_assoc (entries_of pass.seen) (entries_of goes.between) (go_at t ∷ []) in
-      let same : heard_of run (entries_of later.seen) later.thread ≡ heard_of run (entries_of pass.seen) t =
-      rw (seen, goes.is_hold.thread) (more-without run (first run) 0 t (entries_of pass.seen) more (no-back t (entries_of goes.between) goes.is_hold.not_by)) in
-      record { hears = λ h stands. rw same (inside.hears h stands); same_is = inside.same_is }
-    where
-      no-back : (t : ℕ) (xs : List Entry) → NotBy t xs → has_back t (xs ++ go_at t ∷ []) ≡ false
-      no-back t xs none = back-append t xs (go_at t ∷ []) refl ∙ back-others t xs none
 
   -- its callback was answered
   pub driven-answered :
@@ -197,51 +166,65 @@ module _ {P : Type 0} (stands_for : P → Record → Type 0) (Same : P → P →
       hold-entries pass later grows.between (event_reply t stores) grows.is_hold ∙ ap (λ front. (front ++ between) ++ event_reply t stores) owed.history_is
       ∙ ap (λ front. front ++ event_reply t stores) (append_assoc owed.before (go_at t ∷ owed.since) between) ∙ append_assoc owed.before (go_at t ∷ since) (event_reply t stores) in
       let outside : pending_at S t ≡ None = (turn-goes S t (legal-behind run (first run) owed.before (go_at t ∷ owed.since) (subst (AllowsFrom run (first run)) owed.history_is legal)).0).outside in
-      let item : Item = record { seq = 0 + length owed.before; thread = t; call = call_of (turn run S t).state.world t owed.event; snapshot = snap_of (turn run S t).state.world t owed.event; stores = stores } in
+      let item = item_of seq t call snapshot reply in
       let place : 0 + length owed.before ≡ seq = omega (arith, owed.place) in
-      let is : item ≡ item_of seq t call snapshot reply = rw (place, owed.call_is, owed.snapshot_is) refl in
+      let is : item_with (0 + length owed.before) t (turn run S t).state.world owed.event stores ≡ item =
+      rw (place, owed.call_is, owed.snapshot_is) refl in
+      let told_now = answered run S (0 + length owed.before) t owed.event since stores owed.happens owed.registered none_since in
       let heard : heard_of run (entries_of later.seen) later.thread ≡ heard_of run owed.before t ++ item ∷ [] =
-      rw (seen, grows.is_hold.thread) (heard-split run (first run) 0 t owed.before behind (within run t below) outside ∙ ap (λ more. heard_of run owed.before t ++ more) (answered run S (0 + length owed.before) t owed.event since stores owed.happens owed.registered none_since)) in
+      rw (seen, grows.is_hold.thread) (heard-split run (first run) 0 t owed.before behind (within run t below) outside
+      ∙ ap (λ more. heard_of run owed.before t ++ more) (told_now ∙ ap (λ item. item ∷ []) is)) in
       let before : heard_of run (entries_of pass.seen) t ≡ heard_of run owed.before t =
-      ap (λ history. heard_of run history t) owed.history_is ∙ more-without run (first run) 0 t owed.before (go_at t ∷ owed.since) (back-others t owed.since owed.none_since) in
+      ap (λ history. heard_of run history t) owed.history_is
+      ∙ more-without run (first run) 0 t owed.before (go_at t ∷ owed.since) (back-others t owed.since owed.none_since) in
+      let front = entries_of pass.seen ++ between in
+      let put = after_from run (after run front) (puts_at t stores) in
       let left : pending_at (after run (entries_of later.seen)) later.thread ≡ None =
-      rw (hold-entries pass later grows.between (event_reply t stores) grows.is_hold, grows.is_hold.thread) (reply-outside run (entries_of pass.seen ++ entries_of grows.between) t stores) in
+      rw (hold-entries pass later grows.between (event_reply t stores) grows.is_hold, grows.is_hold.thread)
+      (ap (λ (S : State). pending_at S t) (after-append run (first run) front (event_reply t stores)
+      ∙ after-append run (after run front) (puts_at t stores) (back_at t ∷ [])) ∙ back-outside put t) in
       driven-open later next left (record {
-        hears = λ h stands. subst (λ (h : Record). stands_for next h) (longer h (heard_of run owed.before t) item (item_of seq t call snapshot reply) is (heard_of run (entries_of later.seen) later.thread) heard) (tells (served h (heard_of run owed.before t)) (subst (λ items. stands_for part (served h items)) before (inside.hears h stands)));
+        hears = λ h stands.
+            rw (heard, ← append_assoc) (tells (served h (heard_of run owed.before t)) (rw before at (inside.hears h stands)));
         same_is = onward whose part next inside.same_is kept;
       })
-    where
-      longer : (h : Record) (items : List Item) (one other : Item) → one ≡ other → (all : List Item) → all ≡ items ++ one ∷ [] → told (served h items) other ≡ served h all
-      longer h items one other same all is = rw (is, ← same) (ap (λ calls. record h { calls = calls }) (append_assoc h.calls items (one ∷ [])))
-
-      reply-outside : (run : Run) (history : List Entry) (t : ℕ) (stores : List Stored) → pending_at (after run (history ++ event_reply t stores)) t ≡ None
-      reply-outside run history t stores =
-          let S = after_from run (after run history) (puts_at t stores) in
-          ap (λ (S : State). pending_at S t) (after-append run (first run) history (event_reply t stores) ∙ after-append run (after run history) (puts_at t stores) (back_at t ∷ [])) ∙ back-outside S t
 
   -- its part found no memory
-  pub driven-unheard : (pass later : PassView) (part next : P) (seq : ℕ) (call : Call) (snapshot : Snapshot) → Owes run (entries_of pass.seen) pass.thread seq call snapshot → AddsHold pass later [] → later.ended ≡ true
+  pub driven-unheard : (pass later : PassView) (part next : P) (seq : ℕ) (call : Call) (snapshot : Snapshot)
+      → Owes run (entries_of pass.seen) pass.thread seq call snapshot → AddsHold pass later [] → later.ended ≡ true
       → ((h : Record) → stands_for part h → stands_for next (one_unheard h)) → ((first second third : P) → Same first second → Same second third → Same first third) → Same part next → Inside pass part → Driven later next
   driven-unheard pass later part next seq call snapshot owes grows ended none onward kept inside =
-      let t = pass.thread in
-      let seen : entries_of later.seen ≡ entries_of pass.seen ++ entries_of grows.between = hold-entries pass later grows.between [] grows.is_hold ∙ append-nil _ in
-      let left : LeftAt run (entries_of later.seen) later.thread true = rw (seen, grows.is_hold.thread) (left-others run (entries_of pass.seen) (entries_of grows.between) t true grows.is_hold.not_by (record { seq = seq; call = call; snapshot = snapshot; owes = owes })) in
-      record {
-        unheard = true;
-        left = left;
-        over = λ same. ended;
-        hears = λ h stands. rw (seen, grows.is_hold.thread, heard-others run (entries_of pass.seen) (entries_of grows.between) t grows.is_hold.not_by) (none _ (inside.hears h stands));
-        same_is = onward whose part next inside.same_is kept;
-      }
+      driven-later pass later next true grows (λ same. ended) (record { seq = seq; call = call; snapshot = snapshot; owes = owes })
+      (λ h stands. none _ (inside.hears h stands)) (onward whose part next inside.same_is kept)
 
   -- a visit of a pass that hasn't ended the run
-  step-gone : (pass later : PassView) (part : P) (step : Step) → pass.thread < run.threads → pass.ended ≡ false → later.ended ≡ pass.ended → VisitsAfterOthers run pass step later → Driven pass part → HasStep stands_for Same run whose later part step
-  step-gone pass later part (Told seq call snapshot) below ended same goes driven = (same ∙ ended, inside-told pass later part seq call snapshot ended goes driven)
-  step-gone pass later part step below ended same goes driven = driven-quiet pass later part step below ended goes (λ seq call snapshot told. cc) driven
+  step-gone : (pass later : PassView) (part : P) (step : Step) → pass.thread < run.threads → pass.ended ≡ false → later.ended ≡ pass.ended
+      → VisitsAfterOthers run pass step later → Driven pass part → HasStep stands_for Same run whose later part step
+  step-gone pass later part step below ended same goes driven =
+      let t = pass.thread in
+      let book = book_after run (pass.seen ++ goes.between) goes.ended in
+      let added = (visit book t).added in
+      let before = open-of pass part ended driven in
+      let whole : book.history ≡ entries_of pass.seen ++ entries_of goes.between = entries-append pass.seen goes.between in
+      let outside : pending_at (after run book.history) t ≡ None =
+      rw whole (left-others run (entries_of pass.seen) (entries_of goes.between) t false goes.is_hold.not_by before.0) in
+      let heard : heard_of run book.history t ≡ heard_of run (entries_of pass.seen) t =
+      rw whole (heard-others run (entries_of pass.seen) (entries_of goes.between) t goes.is_hold.not_by) in
+      let seen : entries_of later.seen ≡ book.history ++ added =
+      hold-entries pass later goes.between added goes.is_hold ∙ ap (λ front. front ++ added) (sym whole) in
+      let inside : heard_of run (book.history ++ added) t ≡ heard_of run book.history t → Inside later part = λ more. record {
+        hears = λ h stands. rw (seen, goes.is_hold.thread, more, heard) (before.1.hears h stands);
+        same_is = before.1.same_is;
+      } in
+      elim step as (λ step. Adds run book.history added t step → HasStep stands_for Same run whose later part step) [
+        | Told seq call snapshot ↦ λ more. (same ∙ ended, inside more)
+        | other ↦ λ calm. driven-open later part (rw (seen, goes.is_hold.thread) calm.outside) (inside calm.same)
+      ] (rw (← goes.step_is) at (visit-adds book t below outside))
 
   -- a visit, and then no memory
   driven-ended : (pass later last : PassView) (part : P) → AddsHold pass later [] → later.ended ≡ pass.ended → AddsHold later last [] → last.ended ≡ true → Driven pass part → Driven last part
-  driven-ended pass later last part one same two ended driven = driven-grown later last part two (λ over. ended) (driven-grown pass later part one (λ over. same ∙ over) driven)
+  driven-ended pass later last part one same two ended driven =
+      driven-grown later last part two (λ over. ended) (driven-grown pass later part one (λ over. same ∙ over) driven)
 
   -- a visit of a pass
   pub come-gone : {E : Type 0} (pass later : PassView) (part : P) (result : Result Step E) → pass.thread < run.threads
@@ -257,7 +240,8 @@ module _ {P : Type 0} (stands_for : P → Record → Type 0) (Same : P → P →
   -- its callback was answered, and then it visited again
   pub come-answered :
       {E : Type 0} (pass later : PassView) (part next : P) (seq : ℕ) (call : Call) (snapshot : Snapshot) (reply : Reply) (result : Result Step E) → Legal run (entries_of pass.seen) → pass.thread < run.threads → pass.ended ≡ false
-      → Owes run (entries_of pass.seen) pass.thread seq call snapshot → IfOk result (λ step. AnswersThen pass (event_reply pass.thread (stores_of reply snapshot)) (λ answered. VisitsAfterOthers run answered step later))
+      → Owes run (entries_of pass.seen) pass.thread seq call snapshot
+      → IfOk result (λ step. AnswersThen pass (event_reply pass.thread (stores_of reply snapshot)) (λ answered. VisitsAfterOthers run answered step later))
       → OnErr result (AnswersThen pass (event_reply pass.thread (stores_of reply snapshot)) (λ answered. AddsHold answered later [])) → later.ended ≡ pass.ended
       → ((h : Record) → stands_for part h → stands_for next (told h (item_of seq pass.thread call snapshot reply))) → ((first second third : P) → Same first second → Same second third → Same first third) → Same part next → Inside pass part → HasCome stands_for Same run whose later next result
   come-answered pass later part next seq call snapshot reply (Ok step) legal below open_now owes goes memory same tells onward kept inside =

@@ -1,6 +1,6 @@
 -- What a thread hears of a history in which entries of others stand between its own.
-use Rattle.std.proofs.Common.{◌≡◌, ◌≢◌, ℕ, ◌+◌, ◌<◌, ◌==◌, ◌&&◌, ◌||◌, Bool, true, false, if◌then◌else◌, List, [], ◌∷◌, ◌++◌, length, Option, Some, None, IsSome, is_some, get_or-set_same, refl, sym, ap, subst, ◌∙◌, append_assoc, eq-eqb, arith, inl, inr}
-use Rattle.std.proofs.lemmas.{Bool.true≢false, Bool.or_parts, Bool.or_right, Bool.ne_eqb, Bool.Decides.eqb_tells, List.length-set, List.Elements.filter-append}
+use Rattle.std.proofs.Common.{◌≡◌, ◌≢◌, ℕ, ◌+◌, ◌<◌, ◌==◌, ◌&&◌, ◌||◌, Bool, true, false, List, [], ◌∷◌, ◌++◌, length, Option, Some, None, IsSome, is_some, get_or-set_same, refl, sym, ap, subst, ◌∙◌, append_assoc, eq-eqb, arith, inl, inr}
+use Rattle.std.proofs.lemmas.{Bool.true≢false, Bool.and_right, Bool.cond_both, Bool.or_from, Bool.or_parts, Bool.or_right, Bool.ne_eqb, Bool.Decides.eqb_tells, List.length-set, List.Elements.filter-append}
 use Rattle.omp_model.specs.declared.event.Outcome.TheVariants as outcome
 use Rattle.omp_model.specs.Heard.{has_back, heard_at, heard_event, heard_from, heard_outcome, is_back, stores_at, stores_in}
 use Rattle.omp_model.{specs.declared.history.What.What, specs.declared.history.What.TheVariants.Go, specs.declared.history.What.TheVariants.Put, specs.declared.history.What.TheVariants.Back, specs.State.World, specs.Legal.does, specs.Storing.put_at, proofs.Turns.Leaves, proofs.Turns.leaves-turn, proofs.Later.at-set}
@@ -15,12 +15,16 @@ back-append t (entry ∷ xs) ys none = ap (λ more. (is_back entry.what && entry
 -- and the Back that stands among these
 back-front : (t : ℕ) (xs ys : List Entry) → has_back t xs ≡ true → has_back t (xs ++ ys) ≡ true
 back-front t [] ys back = absurd (true≢false (sym back))
-back-front t (entry ∷ xs) ys back = elim (is_back entry.what && entry.thread == t) as (λ b. (b || has_back t xs) ≡ true → (b || has_back t (xs ++ ys)) ≡ true) [ true ↦ λ said. refl | false ↦ λ said. back-front t xs ys said ] back
+back-front t (entry ∷ xs) ys back =
+    elim (is_back entry.what && entry.thread == t) as (λ b. (b || has_back t xs) ≡ true → (b || has_back t (xs ++ ys)) ≡ true) [
+      | true ↦ λ said. refl
+      | false ↦ λ said. back-front t xs ys said
+    ] back
 
 -- others' entries have no Back of the thread
 pub back-others : (t : ℕ) (xs : List Entry) → NotBy t xs → has_back t xs ≡ false
 back-others t [] none = refl
-back-others t (entry ∷ xs) none = rw (ne_eqb entry.thread t none.0, back-others t xs none.1) (elim (is_back entry.what) as (λ b. ((b && false) || false) ≡ false) [ true ↦ refl | false ↦ refl ])
+back-others t (entry ∷ xs) none = or_from _ _ (and_right _ _ (ne_eqb entry.thread t none.0)) (back-others t xs none.1)
 
 -- the stores up to the Back are the same, whatever follows
 stores-front : (t : ℕ) (xs ys : List Entry) → has_back t xs ≡ true → stores_in t (xs ++ ys) ≡ stores_in t xs
@@ -43,31 +47,37 @@ stores-front t (entry ∷ xs) ys back = elim (eqb_tells entry.thread t) [
 
 -- the item of an event with these stores
 abbrev pub item_with : ℕ → ℕ → World → Event → List Stored → Item
-item_with position t W event stores = record { seq = position; thread = t; call = call_of W t event; snapshot = snap_of W t event; stores = stores }
+item_with position t W event stores =
+    record { seq = position; thread = t; call = call_of W t event; snapshot = snap_of W t event; stores = stores }
 
 at-other : (run : Run) (S : State) (position u : ℕ) (what : What) (rest : List Entry) (t : ℕ) → (u == t) ≡ false → on_thread t (heard_at run S position u what rest) ≡ []
 at-other run S position u Go rest t other =
     let next = (turn run S u).state in
     elim (turn run S u).outcome as (λ o. on_thread t (heard_outcome run position u next o rest) ≡ []) [
-      | outcome.Happens event ↦ elim (is_registered run.mask (callback_of event) && has_back u rest) as (λ b. on_thread t (if b then item_with position u next.world event (stores_in u rest) ∷ [] else []) ≡ []) [ true ↦ rw other refl | false ↦ refl ]
+      | outcome.Happens event ↦ cond_both _ (item_with position u next.world event (stores_in u rest) ∷ []) []
+          (λ items. on_thread t items ≡ []) (λ yes. rw other refl) (λ no. refl)
       | o ↦ refl
     ]
 at-other run S position u what rest t other = refl
 
 -- what follows an event says the same of it with more behind, where its Back stands there, or no Back stands in what is more
-event-front : (run : Run) (position t : ℕ) (W : World) (event : Event) (rest more : List Entry) → has_back t (rest ++ more) ≡ has_back t rest → heard_event run position t W event (rest ++ more) ≡ heard_event run position t W event rest
-event-front run position t W event rest more same = rw same (by (is_registered run.mask (callback_of event)) (has_back t rest) refl)
-  where
-    by : (registered b : Bool) → has_back t rest ≡ b → (if registered && b then item_with position t W event (stores_in t (rest ++ more)) ∷ [] else []) ≡ (if registered && b then item_with position t W event (stores_in t rest) ∷ [] else [])
-    by true true there = rw (stores-front t rest more there) refl
-    by true false none = refl
-    by false b none = refl
+event-front : (run : Run) (position t : ℕ) (W : World) (event : Event) (rest more : List Entry)
+    → has_back t (rest ++ more) ≡ has_back t rest
+    → heard_event run position t W event (rest ++ more) ≡ heard_event run position t W event rest
+event-front run position t W event rest more same =
+    elim (has_back t rest)
+    as (λ b. has_back t rest ≡ b → heard_event run position t W event (rest ++ more) ≡ heard_event run position t W event rest) [
+      | true ↦ λ there. rw (same, stores-front t rest more there) refl
+      | false ↦ λ none. rw (same, and_right)
+    ] refl
 
-at-front : (run : Run) (S : State) (position t : ℕ) (what : What) (rest more : List Entry) → ((event : Event) → what ≡ Go → (turn run S t).outcome ≡ outcome.Happens event → has_back t (rest ++ more) ≡ has_back t rest)
+at-front : (run : Run) (S : State) (position t : ℕ) (what : What) (rest more : List Entry)
+    → ((event : Event) → what ≡ Go → (turn run S t).outcome ≡ outcome.Happens event → has_back t (rest ++ more) ≡ has_back t rest)
     → heard_at run S position t what (rest ++ more) ≡ heard_at run S position t what rest
 at-front run S position t Go rest more same = by (turn run S t).outcome refl
   where
-    by : (o : Outcome) → (turn run S t).outcome ≡ o → heard_outcome run position t (turn run S t).state o (rest ++ more) ≡ heard_outcome run position t (turn run S t).state o rest
+    by : (o : Outcome) → (turn run S t).outcome ≡ o
+        → heard_outcome run position t (turn run S t).state o (rest ++ more) ≡ heard_outcome run position t (turn run S t).state o rest
     by (outcome.Happens event) is = event-front run position t (turn run S t).state.world event rest more (same event refl is)
     by o is = refl
 at-front run S position t what rest more same = refl
@@ -77,7 +87,7 @@ at-without : (run : Run) (S : State) (position t : ℕ) (what : What) (rest : Li
 at-without run S position t Go rest none =
     let next = (turn run S t).state in
     elim (turn run S t).outcome as (λ o. heard_outcome run position t next o rest ≡ []) [
-      | outcome.Happens event ↦ rw none (elim (is_registered run.mask (callback_of event)) as (λ b. (if b && false then item_with position t next.world event (stores_in t rest) ∷ [] else []) ≡ []) [ true ↦ refl | false ↦ refl ])
+      | outcome.Happens event ↦ rw and_right
       | o ↦ refl
     ]
 at-without run S position t what rest none = refl
@@ -90,8 +100,11 @@ heard_on run S position entries t = on_thread t (heard_from run S position entri
 abbrev head-of : Run → State → ℕ → ℕ → Entry → List Entry → List Item
 head-of run S position t entry rest = on_thread t (heard_at run S position entry.thread entry.what rest)
 
-heard-first : (run : Run) (S : State) (position t : ℕ) (entry : Entry) (rest : List Entry) → heard_on run S position (entry ∷ rest) t ≡ head-of run S position t entry rest ++ heard_on run (entered run S entry) (position + 1) rest t
-heard-first run S position t entry rest = filter-append (λ (item : Item). item.thread == t) (heard_at run S position entry.thread entry.what rest) (heard_from run (entered run S entry) (position + 1) rest)
+heard-first : (run : Run) (S : State) (position t : ℕ) (entry : Entry) (rest : List Entry)
+    → heard_on run S position (entry ∷ rest) t
+    ≡ head-of run S position t entry rest ++ heard_on run (entered run S entry) (position + 1) rest t
+heard-first run S position t entry rest = filter-append (λ (item : Item). item.thread == t)
+    (heard_at run S position entry.thread entry.what rest) (heard_from run (entered run S entry) (position + 1) rest)
 
 pub without-back : (run : Run) (S : State) (position t : ℕ) (entries : List Entry) → has_back t entries ≡ false → heard_on run S position entries t ≡ []
 without-back run S position t [] none = refl
@@ -104,9 +117,12 @@ without-back run S position t (entry ∷ rest) none =
     rw (heard-first run S position t entry rest, head, without-back run (entered run S entry) (position + 1) t rest parts.1) refl
 
 -- the first entry is heard alike whatever follows, where it is so for the thread's own
-head-front : (run : Run) (S : State) (position t : ℕ) (entry : Entry) (rest more : List Entry) → (entry.thread ≡ t → heard_at run S position t entry.what (rest ++ more) ≡ heard_at run S position t entry.what rest) → head-of run S position t entry (rest ++ more) ≡ head-of run S position t entry rest
+head-front : (run : Run) (S : State) (position t : ℕ) (entry : Entry) (rest more : List Entry)
+    → (entry.thread ≡ t → heard_at run S position t entry.what (rest ++ more) ≡ heard_at run S position t entry.what rest)
+    → head-of run S position t entry (rest ++ more) ≡ head-of run S position t entry rest
 head-front run S position t entry rest more own = elim (eqb_tells entry.thread t) [
-  | inl same ↦ subst (λ u. on_thread t (heard_at run S position u entry.what (rest ++ more)) ≡ on_thread t (heard_at run S position u entry.what rest)) (sym same.1) (ap (on_thread t) (own same.1))
+  | inl same ↦ subst (λ u. on_thread t (heard_at run S position u entry.what (rest ++ more)) ≡ on_thread t
+      (heard_at run S position u entry.what rest)) (sym same.1) (ap (on_thread t) (own same.1))
   | inr other ↦ at-other run S position entry.thread entry.what (rest ++ more) t other.0 ∙ sym (at-other run S position entry.thread entry.what rest t other.0)
 ]
 
@@ -114,7 +130,10 @@ head-front run S position t entry rest more own = elim (eqb_tells entry.thread t
 pub more-without : (run : Run) (S : State) (position t : ℕ) (entries more : List Entry) → has_back t more ≡ false → heard_on run S position (entries ++ more) t ≡ heard_on run S position entries t
 more-without run S position t [] more none = without-back run S position t more none
 more-without run S position t (entry ∷ rest) more none =
-    rw (heard-first run S position t entry (rest ++ more), heard-first run S position t entry rest, head-front run S position t entry rest more (λ same. at-front run S position t entry.what rest more (λ event go is. back-append t rest more none)), more-without run (entered run S entry) (position + 1) t rest more none) refl
+    let own : entry.thread ≡ t → heard_at run S position t entry.what (rest ++ more) ≡ heard_at run S position t entry.what rest =
+    λ same. at-front run S position t entry.what rest more (λ event go is. back-append t rest more none) in
+    rw (heard-first run S position t entry (rest ++ more), heard-first run S position t entry rest)
+    (rw (head-front run S position t entry rest more own, more-without run (entered run S entry) (position + 1) t rest more none))
 
 -- A thread that is inside a callback leaves it by its Back alone.
 
@@ -125,17 +144,19 @@ does-inside : (run : Run) (S : State) (u t : ℕ) (what : What) → (is_back wha
 does-inside run S u t Go none inside = by (turn run S u).outcome (leaves-turn run S u)
   where
     by : (o : Outcome) → Leaves S u (turn run S u).state o → Inside (turn run S u).state t
-    by (outcome.Happens event) leaves = rw leaves.2 (at-set (λ (callback : Option Callback). IsSome callback) None S.pending u t (Some (called event)) inside (λ same. refl))
-    by outcome.Idle leaves = rw leaves.2 inside
-    by outcome.Quiet leaves = rw leaves.2 inside
-    by (outcome.Halts halt) leaves = rw leaves.2 inside
+    by (outcome.Happens event) leaves =
+        rw leaves.2 (at-set (λ (callback : Option Callback). IsSome callback) None S.pending u t (Some (called event)) inside
+        (λ same. refl))
+    by o leaves = rw leaves.2 inside
 does-inside run S u t (Put place word) none inside = elim (pending_at S u) as (λ callback. Inside (put_from S u place word callback) t) [
   | None ↦ inside
-  | Some callback ↦ at-set (λ (callback : Option Callback). IsSome callback) None S.pending u t (Some (record callback { stores = callback.stores + 1 })) inside (λ same. refl)
+  | Some callback ↦ at-set (λ (callback : Option Callback). IsSome callback) None S.pending u t
+      (Some (record callback { stores = callback.stores + 1 })) inside (λ same. refl)
 ]
 does-inside run S u t Back none inside = elim (pending_at S u) as (λ callback. Inside (back_from S u callback) t) [
   | None ↦ inside
-  | Some callback ↦ at-set (λ (callback : Option Callback). IsSome callback) None S.pending u t None inside (λ same. absurd (true≢false (sym (eq-eqb u t (sym same)) ∙ none)))
+  | Some callback ↦ at-set (λ (callback : Option Callback). IsSome callback) None S.pending u t None inside
+      (λ same. absurd (true≢false (sym (eq-eqb u t (sym same)) ∙ none)))
 ]
 
 -- where it has left it, its Back stands there
@@ -159,35 +180,38 @@ does-many run S u Go = by (turn run S u).outcome (leaves-turn run S u)
   where
     by : (o : Outcome) → Leaves S u (turn run S u).state o → length (turn run S u).state.pending ≡ length S.pending
     by (outcome.Happens event) leaves = rw leaves.2 (length-set S.pending u (Some (called event)))
-    by outcome.Idle leaves = rw leaves.2
-    by outcome.Quiet leaves = rw leaves.2
-    by (outcome.Halts halt) leaves = rw leaves.2
+    by o leaves = rw leaves.2
 does-many run S u (Put place word) = elim (pending_at S u) as (λ callback. length (put_from S u place word callback).pending ≡ length S.pending) [ None ↦ refl | Some callback ↦ length-set S.pending u (Some (record callback { stores = callback.stores + 1 })) ]
 does-many run S u Back = elim (pending_at S u) as (λ callback. length (back_from S u callback).pending ≡ length S.pending) [ None ↦ refl | Some callback ↦ length-set S.pending u None ]
 
 -- what a thread hears of entries after which it is inside no callback is heard of them whatever follows
-pub heard-split : (run : Run) (S : State) (position t : ℕ) (entries more : List Entry) → t < length S.pending → pending_at (after_from run S entries) t ≡ None
+pub heard-split : (run : Run) (S : State) (position t : ℕ) (entries more : List Entry) → t < length S.pending
+    → pending_at (after_from run S entries) t ≡ None
     → heard_on run S position (entries ++ more) t ≡ heard_on run S position entries t ++ heard_on run (after_from run S entries) (position + length entries) more t
 heard-split run S position t [] more within outside = ap (λ place. heard_on run S place more t) (omega arith)
 heard-split run S position t (entry ∷ rest) more within outside =
     let next = entered run S entry in
-    let own : entry.thread ≡ t → heard_at run S position t entry.what (rest ++ more) ≡ heard_at run S position t entry.what rest = λ same. at-front run S position t entry.what rest more (λ event go is.
-    let there = left-by-back run (turn run S t).state t rest (goes-inside run S t event within is) (rw (same, go) at outside) in back-front t rest more there ∙ sym there) in
+    let own : entry.thread ≡ t → heard_at run S position t entry.what (rest ++ more) ≡ heard_at run S position t entry.what rest =
+    λ same. at-front run S position t entry.what rest more (λ event go is.
+    let inside = goes-inside run S t event within is in
+    let there = left-by-back run (turn run S t).state t rest inside (rw (same, go) at outside) in
+    back-front t rest more there ∙ sym there) in
     let place : position + 1 + length rest ≡ position + length (entry ∷ rest) = omega arith in
-    rw (heard-first run S position t entry (rest ++ more), heard-first run S position t entry rest, head-front run S position t entry rest more own, heard-split run next (position + 1) t rest more (rw (does-many run S entry.thread entry.what) within) outside, ← place)
-    (sym (append_assoc (head-of run S position t entry rest) (heard_on run next (position + 1) rest t) (heard_on run (after_from run next rest) (position + 1 + length rest) more t)))
+    let many : t < length next.pending = rw (does-many run S entry.thread entry.what) within in
+    rw (heard-first run S position t entry (rest ++ more), heard-first run S position t entry rest)
+    (rw (head-front run S position t entry rest more own, heard-split run next (position + 1) t rest more many outside, ← place)
+    (sym (append_assoc (head-of run S position t entry rest) (heard_on run next (position + 1) rest t)
+    (heard_on run (after_from run next rest) (position + 1 + length rest) more t))))
 
--- nothing is heard of stores and Backs
-pub reply-silent : (run : Run) (S : State) (position t : ℕ) (stores : List Stored) → heard_from run S position (event_reply t stores) ≡ []
-reply-silent run S position t [] = refl
-reply-silent run S position t (store ∷ rest) = reply-silent run (entered run S (put_at t store)) (position + 1) t rest
-
--- nor, on the thread, of others' entries, whatever follows
-others-silent : (run : Run) (S : State) (position t : ℕ) (entries more : List Entry) → NotBy t entries → heard_on run S position (entries ++ more) t ≡ heard_on run (after_from run S entries) (position + length entries) more t
-others-silent run S position t [] more none = ap (λ place. heard_on run S place more t) (omega arith)
-others-silent run S position t (entry ∷ rest) more none =
-    let place : position + 1 + length rest ≡ position + length (entry ∷ rest) = omega arith in
-    rw (heard-first run S position t entry (rest ++ more), at-other run S position entry.thread entry.what (rest ++ more) t (ne_eqb entry.thread t none.0), others-silent run (entered run S entry) (position + 1) t rest more none.1, place) refl
+-- nothing is heard of stores and Backs, nor, on the thread, of others' entries before them
+reply-unheard : (run : Run) (S : State) (position t : ℕ) (since : List Entry) (stores : List Stored) → NotBy t since
+    → heard_on run S position (since ++ event_reply t stores) t ≡ []
+reply-unheard run S position t [] [] none = refl
+reply-unheard run S position t [] (store ∷ rest) none = reply-unheard run (entered run S (put_at t store)) (position + 1) t [] rest tt
+reply-unheard run S position t (entry ∷ since) stores none =
+    let rest = since ++ event_reply t stores in
+    rw (heard-first run S position t entry rest, at-other run S position entry.thread entry.what rest t (ne_eqb entry.thread t none.0))
+    (reply-unheard run (entered run S entry) (position + 1) t since stores none.1)
 
 -- the Back and the stores of a reply behind others' entries
 reply-back : (t : ℕ) (since : List Entry) (stores : List Stored) → has_back t (since ++ event_reply t stores) ≡ true
@@ -203,10 +227,12 @@ reply-stores t (entry ∷ since) stores none = rw (ne_eqb entry.thread t none.0)
 -- the thread hears its event once it has answered
 pub answered :
     (run : Run) (S : State) (position t : ℕ) (event : Event) (since : List Entry) (stores : List Stored) → (turn run S t).outcome ≡ outcome.Happens event → is_registered run.mask (callback_of event) ≡ true → NotBy t since
-    → heard_on run S position (go_at t ∷ (since ++ event_reply t stores)) t ≡ item_with position t (turn run S t).state.world event stores ∷ []
+    → heard_on run S position (go_at t ∷ (since ++ event_reply t stores)) t
+    ≡ item_with position t (turn run S t).state.world event stores ∷ []
 answered run S position t event since stores happens registered none =
     let next = (turn run S t).state in
     let rest = since ++ event_reply t stores in
-    let one : heard_at run S position t Go rest ≡ item_with position t next.world event stores ∷ [] = rw (happens, registered, reply-back t since stores, reply-stores t since stores none) refl in
-    let tail : heard_on run next (position + 1) rest t ≡ [] = others-silent run next (position + 1) t since (event_reply t stores) none ∙ ap (on_thread t) (reply-silent run (after_from run next since) (position + 1 + length since) t stores) in
+    let one : heard_at run S position t Go rest ≡ item_with position t next.world event stores ∷ [] =
+    rw (happens, registered, reply-back t since stores, reply-stores t since stores none) refl in
+    let tail : heard_on run next (position + 1) rest t ≡ [] = reply-unheard run next (position + 1) t since stores none in
     rw (heard-first run S position t (go_at t) rest, one, tail, eq-eqb t t refl) refl

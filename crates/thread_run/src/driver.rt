@@ -34,14 +34,15 @@ pub(crate) fn drive<R: Wait, K: BookName, P: ToolPart>(
     pass.legal();
     let mut came = book.go(rt, pass);
     for _ in rt.forever() {
-        if let Ok(Step::NotYet) = came {
-            book.sleep(rt, pass);
-        }
         came = match came {
             Ok(Step::Told(seq, call, snapshot)) => {
                 serve_and_go(rt, book, pass, part, seq, &call, snapshot)
             }
-            Ok(Step::Quiet | Step::NotYet) => book.go(rt, pass),
+            Ok(Step::Quiet) => book.go(rt, pass),
+            Ok(Step::NotYet) => {
+                book.sleep(rt, pass);
+                book.go(rt, pass)
+            }
             Ok(Step::Ended(_)) => return,
             Err(_) => {
                 book.end_memory(rt, pass);
@@ -93,7 +94,8 @@ pub(crate) fn visit<R: Wait, K: BookName, P: ToolPart>(
     pass.legal();
     match book.go(rt, pass) {
         Ok(Step::Told(seq, call, snapshot)) => serve(rt, book, pass, part, seq, &call, &snapshot),
-        Ok(Step::Quiet | Step::NotYet) => Visited::On,
+        Ok(Step::Quiet) => Visited::On,
+        Ok(Step::NotYet) => Visited::On,
         Ok(Step::Ended(_)) => Visited::Over,
         Err(_) => {
             book.end_memory(rt, pass);

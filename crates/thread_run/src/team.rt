@@ -1,8 +1,8 @@
 //! The drivers of a run, each on a thread of its own.
 
-ghost use Rattle.std.specs.Prelude.{◌≡◌, ◌≤◌, [], ℕ, List, length, vec_capacity};
+ghost use Rattle.std.specs.Prelude.{◌≡◌, ◌≤◌, ℕ, List, length};
 ghost use Rattle.thread_run.specs.Driving.{GoesOn};
-ghost use Rattle.thread_run.specs.Drivers.{AreDrivers, AreFor, AreKept, IsDriver, IsSlot};
+ghost use Rattle.thread_run.specs.Drivers.{AreDrivers, AreFor, AreKept, HasRoom, IsDriver, IsSlot};
 
 use crate::driver::{Visited, drive, visit};
 use std::snapshot::Snapshot;
@@ -89,8 +89,7 @@ pub(crate) fn drive_here<R: Wait, K: BookName, P: ToolPart>(
     book: &SharedBook<K>,
     slots: &mut [Slot<K, P>],
 )
-    ensures as_many { length slots.new ≡ length slots.old }
-    ensures kept { AreKept (IsSlot P.stands_for P.same K.run) slots.old slots.new }
+    ensures { AreKept (IsSlot P.stands_for P.same K.run) slots.old slots.new }
 {
     let here = slots.iter().filter(|slot| slot.driver.is_err()).count();
     for _ in rt.forever() {
@@ -108,8 +107,7 @@ fn visit_all<R: Wait, K: BookName, P: ToolPart>(
     slots: &mut [Slot<K, P>],
     here: usize,
 ) -> bool
-    ensures as_many { length slots.new ≡ length slots.old }
-    ensures kept { AreKept (IsSlot P.stands_for P.same K.run) slots.old slots.new }
+    ensures { AreKept (IsSlot P.stands_for P.same K.run) slots.old slots.new }
 {
     let mut goes_on = false;
     for place in 0..slots.len() {
@@ -149,17 +147,15 @@ pub(crate) fn start_all<'s, E: 's, R: Wait + Sync, K: BookName + 's, P: ToolPart
     stays: &'s Stays,
     passes: Vec<Pass<K>>,
     parts: Vec<P>,
-    slots: Vec<Slot<K, P>>,
+    mut slots: Vec<Slot<K, P>>,
 ) -> Vec<Slot<K, P>>
     requires few { length passes.items ≤ 16 }
     requires each { length passes.items ≡ length parts.items }
-    requires empty { slots.items ≡ [] }
-    requires room { length passes.items ≤ vec_capacity slots }
+    requires room { HasRoom (length passes.items) slots }
     ensures as_many { length result.items ≡ length passes.items }
     ensures slots { AreDrivers P.stands_for P.same K.run parts.items passes.items parts.items →
         AreFor (IsSlot P.stands_for P.same K.run) parts.items result.items }
 {
-    let mut slots = slots;
     let mut parts = parts.into_iter();
     for pass in passes {
         let Some(part) = parts.next() else {
@@ -182,20 +178,16 @@ pub(crate) fn start_all<'s, E: 's, R: Wait + Sync, K: BookName + 's, P: ToolPart
 pub(crate) fn finish_all<R: Threads, K: BookName, P: ToolPart>(
     rt: &R,
     slots: Vec<Slot<K, P>>,
-    passes: Vec<Pass<K>>,
-    parts: Vec<P>,
+    mut passes: Vec<Pass<K>>,
+    mut parts: Vec<P>,
 ) -> (Vec<Pass<K>>, Vec<P>)
-    requires no_pass { passes.items ≡ [] }
-    requires no_part { parts.items ≡ [] }
-    requires passes { length slots.items ≤ vec_capacity passes }
-    requires parts { length slots.items ≤ vec_capacity parts }
+    requires passes { HasRoom (length slots.items) passes }
+    requires parts { HasRoom (length slots.items) parts }
     ensures passes { length result.0.items ≡ length slots.items }
     ensures parts { length result.1.items ≡ length slots.items }
     ensures drivers { (first : List P) → AreFor (IsSlot P.stands_for P.same K.run) first slots.items →
         AreDrivers P.stands_for P.same K.run first result.0.items result.1.items }
 {
-    let mut passes = passes;
-    let mut parts = parts;
     for slot in slots {
         let (pass, part) = finish(rt, slot);
         passes.push_reserved(pass);

@@ -1,7 +1,7 @@
 //! The run by threads: each thread number has a thread of its own, where it can be started, and callbacks of different threads may overlap.
 
-ghost use Rattle.std.specs.Prelude.{◌≡◌, ◌≢◌, ◌≤◌, Some, IfOk, false, length, vec_capacity, []};
-ghost use Rattle.thread_run.specs.Drivers.{AreDrivers, HasServed};
+ghost use Rattle.std.specs.Prelude.{◌≡◌, ◌≢◌, ◌≤◌, Some, IfOk, false, length};
+ghost use Rattle.thread_run.specs.Drivers.{CanDrive, HasServed, HaveComeBack};
 ghost use Rattle.team_run.specs.Program.{IsRan, run_of};
 
 use crate::team::{Slot, Stays, drive_here, finish_all, start_all};
@@ -19,27 +19,22 @@ use step_book::{Blank, BookName, Closed, Pass, SharedBook};
 use team_run::{Memory, Ran, finalize_first, initialize_first, mask_of};
 use tool_api::ToolPart;
 
-/// Runs the program with so many threads, each on a thread of its own, and so many silent steps at most. Part t is called for the events of
-/// thread t, on its thread, and no lock is held meanwhile.
+/// Runs the program with each thread number on a thread of its own, or driven by the caller where that can't be started. What the parts are
+/// called for, and what no clause says, stands at [`Ran`].
 ///
-/// Part 0 is started before the first entry. What it registers is heard, where it answers another number than 0, and else nothing. Where it
-/// answers another number than 0 it is finished after the last entry, when all threads have come back. After an error it isn't
-/// finished. A thread that can't be started is driven by the caller.
-///
-/// No clause says when memory is wanting, that the run ends, or that callbacks overlap. That an error comes only before the first entry is to be
-/// read.
+/// A part is called on its thread, and no lock is held meanwhile. Part 0 is finished when all threads have come back. No clause says that
+/// the run ends, or that callbacks overlap.
 pub fn run_threads<R: Threads + Wait + Sync, P: ToolPart>(
     rt: &R,
     alloc: Global,
     program: Program,
     limits: Limits,
-    parts: Vec<P>,
+    mut parts: Vec<P>,
 ) -> Result<Ran<P>, Memory>
     requires { length parts.items ≡ limits.threads }
     ensures ran { IfOk result (λ ran.
         IsRan P.stands_for P.same false (run_of program limits.threads limits.steps ran) parts.items ran) }
 {
-    let mut parts = parts;
     let start = initialize_first(&mut parts);
     let mask = mask_of(start);
     let blank = Blank::new(alloc, program, mask, limits)?;
@@ -106,18 +101,8 @@ fn run_drivers<R: Threads + Wait + Sync, K: BookName, P: ToolPart>(
     passes_back: Vec<Pass<K>>,
     parts_back: Vec<P>,
 ) -> (Vec<Pass<K>>, Vec<P>)
-    requires few { length passes.items ≤ 16 }
-    requires each { length passes.items ≡ length parts.items }
-    requires no_slot { slots.items ≡ [] }
-    requires no_pass { passes_back.items ≡ [] }
-    requires no_part { parts_back.items ≡ [] }
-    requires slots { length passes.items ≤ vec_capacity slots }
-    requires passes { length passes.items ≤ vec_capacity passes_back }
-    requires parts { length passes.items ≤ vec_capacity parts_back }
-    ensures passes { length result.0.items ≡ length passes.items }
-    ensures parts { length result.1.items ≡ length passes.items }
-    ensures drivers { AreDrivers P.stands_for P.same K.run parts.items passes.items parts.items →
-        AreDrivers P.stands_for P.same K.run parts.items result.0.items result.1.items }
+    requires { CanDrive passes.items parts.items slots passes_back parts_back }
+    ensures { HaveComeBack P.stands_for P.same K.run passes.items parts.items result.0.items result.1.items }
 {
     // No start of a thread was refused yet.
     let stays: Stays = array::from_fn(|_| AtomicBool::new(false));
@@ -126,18 +111,8 @@ fn run_drivers<R: Threads + Wait + Sync, K: BookName, P: ToolPart>(
         thread::scope_env(),
         rt,
         move |scope| -> (Vec<Pass<K>>, Vec<P>)
-            requires few { length passes.items ≤ 16 }
-            requires each { length passes.items ≡ length parts.items }
-            requires no_slot { slots.items ≡ [] }
-            requires no_pass { passes_back.items ≡ [] }
-            requires no_part { parts_back.items ≡ [] }
-            requires slots { length passes.items ≤ vec_capacity slots }
-            requires passes { length passes.items ≤ vec_capacity passes_back }
-            requires parts { length passes.items ≤ vec_capacity parts_back }
-            ensures passes { length result.0.items ≡ length passes.items }
-            ensures parts { length result.1.items ≡ length passes.items }
-            ensures drivers { AreDrivers P.stands_for P.same K.run parts.items passes.items parts.items →
-                AreDrivers P.stands_for P.same K.run parts.items result.0.items result.1.items }
+            requires { CanDrive passes.items parts.items slots passes_back parts_back }
+            ensures { HaveComeBack P.stands_for P.same K.run passes.items parts.items result.0.items result.1.items }
         {
             let mut slots = start_all(scope, rt, book, stays, passes, parts, slots);
             drive_here(rt, book, &mut slots);

@@ -1,4 +1,4 @@
-use Rattle.std.proofs.Common.{rules, ◌<◌, length, ◌∙◌, arith}
+use Rattle.std.proofs.Common.{rules, ◌<◌, length, arith}
 use Rattle.std.proofs.lemmas.List.{length-set}
 use Rattle.thread_run.{specs.Drivers.IsSlot, proofs.Drivers.kept-set}
 use Rattle.thread_run.proofs.team.visit_all.Goals as goal
@@ -6,9 +6,8 @@ use Rattle.thread_run.proofs.team.visit_all.Goals as goal
 pub loop-place-preserved : goal.loop-place-preserved
 loop-place-preserved g c =
     let kept = c.loop-place.invariant in
-    let many = length-set c.loop-place.slots c.loop-place.place c.visit_here.new.slot in
     let within : c.loop-place.place < length c.loop-place.slots = search rules in (
-      omega (arith, kept.0, kept.1, many),
-      many ∙ kept.1,
-      kept-set (IsSlot {K = g.row.K.Denot} g.P.ToolPart.stands_for g.P.ToolPart.same g.K.BookName.run) c.args.slots.now c.loop-place.slots c.loop-place.place c.index-slots-place.result c.visit_here.new.slot kept.2 kept.1 within c.visit_here.ensures,
+      omega (arith, kept.0, length-set c.loop-place.slots c.loop-place.place c.visit_here.new.slot),
+      kept-set (IsSlot {K = g.row.K.Denot} g.P.ToolPart.stands_for g.P.ToolPart.same g.K.BookName.run) c.args.slots.now c.loop-place.slots
+          c.loop-place.place c.index-slots-place.result c.visit_here.new.slot kept.1 within c.visit_here.ensures,
     )

@@ -19,11 +19,14 @@ pub loop-ready-preserved : goal.loop-ready-preserved
 loop-ready-preserved g c =
     let stands_for = g.P.ToolPart.stands_for in
     let kept = c.loop-ready.invariant in
-    let first : Serves stands_for c.visit.new.self.book.run c.args.self.now.parts.items c.args.self.now.book.history None c.loop-ready.self.parts.items c.loop-ready.self.book.history = rw c.in-Ok.ensures.run kept.serves in
+    let now = c.args.self.now in
+    let first : Serves stands_for c.visit.new.self.book.run now.parts.items now.book.history None
+    c.loop-ready.self.parts.items c.loop-ready.self.book.history = rw c.in-Ok.ensures.run kept.serves in
     record {
       run = c.in-Ok.ensures.run ∙ kept.run;
       stands = c.in-Ok.ensures.stands;
-      serves = serves-then stands_for c.visit.new.self.book.run _ _ _ _ _ _ None first (serves-all _ _ _ _ c.in-Ok.ensures.stands stands_for _ _ c.in-Ok.ensures.serves);
+      serves = serves-then stands_for c.visit.new.self.book.run _ _ _ _ _ _ None first
+          (serves-all _ _ _ _ c.in-Ok.ensures.stands stands_for _ _ c.in-Ok.ensures.serves);
       same = same-then g.P.ToolPart.same (g.met.P.ToolPart g.world.𝓛 g.world.𝓜 g.world.𝓡 ((λ s x. x), (λ x. x), (λ x. x), λ x. x)).same_onward _ _ _ kept.serves.as_many kept.same c.in-Ok.ensures.same;
     }
 
@@ -31,7 +34,9 @@ pub returns-clause-serves : goal.returns-clause-serves
 returns-clause-serves g c = serves-to _ _ _ _ c.loop-ready.invariant.stands g.P.ToolPart.stands_for _ _ c.loop-ready.invariant.serves
 
 pub unreachable-requires : goal.unreachable-requires
-unreachable-requires g c = caused _ _ _ c.loop-ready.invariant.stands (sym c.first_ready.ensures.thread ∙ ap thread_of c.in_default.is) (sym c.cause.ensures ∙ c.in-None.is)
+unreachable-requires g c =
+    caused _ _ _ c.loop-ready.invariant.stands (sym c.first_ready.ensures.thread ∙ ap thread_of c.in_default.is)
+    (sym c.cause.ensures ∙ c.in-None.is)
 
 pub returns-clause-stops : goal.returns-clause-stops
 returns-clause-stops g c = stops-here _ _ _ c.loop-ready.invariant.stands

@@ -7,7 +7,8 @@ abbrev pub invariant-loop-ready : goal.invariant-loop-ready
 invariant-loop-ready g l = record {
   run : l.self.book.run ≡ l.initial.self.book.run;
   stands : StandsAt l.self.book.run l.self.next l.self.book.history;
-  serves : Serves g.P.ToolPart.stands_for l.self.book.run l.initial.self.parts.items l.initial.self.book.history None l.self.parts.items l.self.book.history;
+  serves : Serves g.P.ToolPart.stands_for l.self.book.run l.initial.self.parts.items l.initial.self.book.history None
+      l.self.parts.items l.self.book.history;
   same : AreSame g.P.ToolPart.same l.initial.self.parts.items l.self.parts.items;
 }
 

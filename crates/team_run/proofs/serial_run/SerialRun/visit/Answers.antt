@@ -1,6 +1,6 @@
-use Rattle.std.proofs.Common.{◌≡◌, ◌∙◌, refl, sym, ap, subst, arith, inl, inr, ◌∷◌, []}
+use Rattle.std.proofs.Common.{◌≡◌, ◌<◌, ◌∙◌, refl, sym, ap, subst, arith, inl, inr, ◌∷◌, []}
 use Rattle.omp_model.{specs.Storing.go_at, proofs.Recording.first_enabled-enabled, proofs.Recording.first_enabled-below}
-use Rattle.step_book.{specs.BookView.BookView, specs.BookView.state_of, specs.BookView.with_entries, proofs.Telling.told-step, proofs.Telling.quiet-step, proofs.Telling.ended-step, proofs.Telling.not_yet-step}
+use Rattle.step_book.{specs.BookView.BookView, specs.BookView.with_entries, proofs.Telling.told-step, proofs.Telling.quiet-step, proofs.Telling.ended-step, proofs.Telling.not_yet-step}
 use Rattle.team_run.proofs.Visiting.{QuietVisit, Visited, alone-visit, stops-here, stops-inside, untold-visit, visited-said, serves-said, serves-to, from_either, from_ok}
 use Rattle.team_run.{specs.Serving.Answers, proofs.Serving.same-itself}
 use Rattle.team_run.proofs.serial_run.SerialRun.visit.Goals as goal
@@ -15,10 +15,14 @@ pub returns-in_err-step-clause-stops : goal.returns-in_err-step-clause-stops
 returns-in_err-step-clause-stops g c = rw c.in_err-step.ensures.memory (stops-here _ _ _ c.requires.stands)
 
 pub overflow_add-self : goal.overflow_add-self
-overflow_add-self g c = omega (arith, first_enabled-below c.args.self.now.book.run (state_of c.args.self.now.book) _ _ c.requires.stands.within c.requires.turn, c.requires.stands.few)
+overflow_add-self g c =
+    let below : c.args.ready.thread < c.args.self.now.book.run.threads =
+    first_enabled-below c.args.self.now.book.run _ _ _ c.requires.stands.within c.requires.turn in omega (arith, c.requires.stands.few)
 
 pub serve-requires-clause-part : goal.serve-requires-clause-part
-serve-requires-clause-part g c κs within = omega (arith, first_enabled-below c.args.self.now.book.run (state_of c.args.self.now.book) _ _ c.requires.stands.within c.requires.turn, c.requires.parts)
+serve-requires-clause-part g c κs within =
+    let below : c.args.ready.thread < c.args.self.now.book.run.threads =
+    first_enabled-below c.args.self.now.book.run _ _ _ c.requires.stands.within c.requires.turn in omega (arith, c.requires.parts)
 
 pub returns-in-Told : goal.returns-in-Told
 returns-in-Told g c =
@@ -37,11 +41,13 @@ returns-in-Told g c =
       run = same;
       serves = rw same (from_either c.serve.result c.serve.ensures.answers c.serve.ensures.memory
           (λ answered. serves-to _ _ _ _ (visited answered).stands stands_for _ _ (visited answered).serves)
-          (λ kept. rw (kept.0, whole) (serves-said book.run _ book.history t c.requires.stands c.requires.turn _ _ told.is_told stands_for parts _ kept.1)));
+          (λ kept. rw (kept.0, whole) (serves-said book.run _ book.history t
+          c.requires.stands c.requires.turn _ _ told.is_told stands_for parts _ kept.1)));
       same = c.serve.ensures.same;
       stops = rw same (from_either c.serve.result c.serve.ensures.answers c.serve.ensures.memory
           (λ answered. stops-here _ _ _ (visited answered).stands)
-          (λ kept. rw (kept.0, whole) (stops-inside book.run _ book.history t c.requires.stands c.requires.turn told.is_told.event told.is_told.happens)));
+          (λ kept. rw (kept.0, whole) (stops-inside book.run _ book.history t
+          c.requires.stands c.requires.turn told.is_told.event told.is_told.happens)));
       stands = from_ok c.serve.result c.serve.ensures.answers (λ answered. rw (same, c.serve.ensures.next) (visited answered).stands);
       turns = from_ok c.serve.result c.serve.ensures.answers (λ answered. rw same (visited answered).turns);
     }
