@@ -7,6 +7,7 @@ use history_file::FileText;
 use ompt_calls::Sequence;
 use ompt_words::Settings;
 use std::alloc::{AllocError, Global};
+use team_run::Limits;
 
 /// A program, with the text that spells it.
 #[derive(Drop)]
@@ -34,6 +35,16 @@ pub(crate) struct Job {
 }
 
 impl Job {
+    /// How many threads and silent steps its run may have.
+    pub fn limits(&self) -> Limits
+        ensures { result ≡ record { threads = self.now.settings.threads; steps = self.now.settings.steps } }
+    {
+        Limits {
+            threads: self.settings.threads,
+            steps: self.settings.steps,
+        }
+    }
+
     /// The program's text once more.
     pub fn copied_text(&self) -> Result<FileText, AllocError>
         ensures { IfOk result (λ text. text ≡ self.now.loaded.text.items) }

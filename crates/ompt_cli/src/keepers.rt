@@ -6,6 +6,7 @@ ghost use Rattle.ompt_cli.specs.Names.{Record, EventRecord, generated, summary_o
 ghost use Rattle.ompt_words.specs.declared.settings.Command.{Command as SeenCommand};
 ghost use Rattle.ompt_cli.specs.{Commands.columns_in, Reports.HasObserved};
 
+use crate::guests::Guests;
 use crate::job::Job;
 use crate::observing::{Seen, observe, observe_alone};
 use crate::writing::Made;
@@ -39,16 +40,23 @@ pub(crate) trait Keeper: ToolPart {
 
     /// Runs the job, which is serial, with the parts of this list, which it takes out of it. Parts may be sent to
     /// threads, and nothing says of a type parameter of a method that it may be sent. So each kind makes its own runs.
-    fn run_alone(job: Job, parts: &mut Vec<Self>) -> Seen<Self>
+    fn run_alone(job: Job, parts: &mut Vec<Self>, guests: Guests) -> Seen<Self>
         requires serial { job.settings.serial ≡ true }
         requires parts { length parts.old.items ≡ job.settings.threads }
-        ensures { IfOk result (HasObserved Self.stands_for Self.same job parts.old.items) };
+        ensures observed { IfOk result (HasObserved Self.stands_for Self.same job parts.old.items) }
+        ensures guests { IfOk result (λ observed. observed.report.guests ≡ guests) };
 
     /// Does what [`Keeper::run_alone`] does for each job, by threads where it isn't serial.
-    fn on_threads<R: Threads + Wait + Sync>(rt: &R, job: Job, parts: &mut Vec<Self>) -> Seen<Self>
+    fn on_threads<R: Threads + Wait + Sync>(
+        rt: &R,
+        job: Job,
+        parts: &mut Vec<Self>,
+        guests: Guests,
+    ) -> Seen<Self>
         requires sync { IsSync R.row }
         requires parts { length parts.old.items ≡ job.settings.threads }
-        ensures { IfOk result (HasObserved Self.stands_for Self.same job parts.old.items) };
+        ensures observed { IfOk result (HasObserved Self.stands_for Self.same job parts.old.items) }
+        ensures guests { IfOk result (λ observed. observed.report.guests ≡ guests) };
 
     ghost stands: { (kept : Self) (h : Record) → KeeperFor keep kept h ↔ Self.stands_for kept h };
 }
@@ -71,14 +79,19 @@ impl Keeper for Recorder {
         }
     }
 
-    fn run_alone(job: Job, parts: &mut Vec<Self>) -> Seen<Self> {
+    fn run_alone(job: Job, parts: &mut Vec<Self>, guests: Guests) -> Seen<Self> {
         let list = mem::replace(parts, Vec::new(job.alloc));
-        observe_alone(job, list)
+        observe_alone(job, list, guests)
     }
 
-    fn on_threads<R: Threads + Wait + Sync>(rt: &R, job: Job, parts: &mut Vec<Self>) -> Seen<Self> {
+    fn on_threads<R: Threads + Wait + Sync>(
+        rt: &R,
+        job: Job,
+        parts: &mut Vec<Self>,
+        guests: Guests,
+    ) -> Seen<Self> {
         let list = mem::replace(parts, Vec::new(job.alloc));
-        observe(rt, job, list)
+        observe(rt, job, list, guests)
     }
 
     ghost stands = { λ kept h. (λ for. for, λ for. for) };
@@ -100,14 +113,19 @@ impl Keeper for Profile {
         profile_text(alloc, parts)
     }
 
-    fn run_alone(job: Job, parts: &mut Vec<Self>) -> Seen<Self> {
+    fn run_alone(job: Job, parts: &mut Vec<Self>, guests: Guests) -> Seen<Self> {
         let list = mem::replace(parts, Vec::new(job.alloc));
-        observe_alone(job, list)
+        observe_alone(job, list, guests)
     }
 
-    fn on_threads<R: Threads + Wait + Sync>(rt: &R, job: Job, parts: &mut Vec<Self>) -> Seen<Self> {
+    fn on_threads<R: Threads + Wait + Sync>(
+        rt: &R,
+        job: Job,
+        parts: &mut Vec<Self>,
+        guests: Guests,
+    ) -> Seen<Self> {
         let list = mem::replace(parts, Vec::new(job.alloc));
-        observe(rt, job, list)
+        observe(rt, job, list, guests)
     }
 
     ghost stands = { λ kept h. (λ for. for, λ for. for) };
@@ -133,14 +151,19 @@ impl Keeper for Timeline {
         }
     }
 
-    fn run_alone(job: Job, parts: &mut Vec<Self>) -> Seen<Self> {
+    fn run_alone(job: Job, parts: &mut Vec<Self>, guests: Guests) -> Seen<Self> {
         let list = mem::replace(parts, Vec::new(job.alloc));
-        observe_alone(job, list)
+        observe_alone(job, list, guests)
     }
 
-    fn on_threads<R: Threads + Wait + Sync>(rt: &R, job: Job, parts: &mut Vec<Self>) -> Seen<Self> {
+    fn on_threads<R: Threads + Wait + Sync>(
+        rt: &R,
+        job: Job,
+        parts: &mut Vec<Self>,
+        guests: Guests,
+    ) -> Seen<Self> {
         let list = mem::replace(parts, Vec::new(job.alloc));
-        observe(rt, job, list)
+        observe(rt, job, list, guests)
     }
 
     ghost stands = { λ kept h. (λ for. for, λ for. for) };

@@ -4,13 +4,14 @@ ghost use Rattle.std.specs.Prelude.{◌≡◌, IfOk, List, length, true};
 ghost use Rattle.team_run.specs.Program.{IsRan, run_of};
 ghost use Rattle.ompt_cli.specs.{declared.job.Job.Job, Text.IsOf, Reports.HasObserved};
 
+use crate::guests::Guests;
 use crate::job::Job;
 use crate::report::{ProgramTree, Report};
 use ompt_words::Settings;
-use std::alloc::{AllocError, Global};
+use std::alloc::AllocError;
 use std::sync::Wait;
 use std::thread::Threads;
-use team_run::{Limits, Ran, run_serial};
+use team_run::{Ran, run_serial};
 use thread_run::run_threads;
 use tool_api::ToolPart;
 
@@ -25,19 +26,22 @@ pub(crate) struct Observed<P> {
 /// What a run gave, unless there was no memory for it. A run that found none for its first entry is none.
 pub(crate) type Seen<P> = Result<Observed<P>, AllocError>;
 
-/// Runs a serial job. Part t is called for the events of thread t. The report has no guests.
-pub(crate) fn observe_alone<P: ToolPart>(job: Job, parts: Vec<P>) -> Seen<P>
+/// Runs a serial job. Part t is called for the events of thread t. The guests of the report are these.
+pub(crate) fn observe_alone<P: ToolPart>(job: Job, parts: Vec<P>, guests: Guests) -> Seen<P>
     requires serial { job.settings.serial ≡ true }
     requires parts { length parts.items ≡ job.settings.threads }
-    ensures { IfOk result (HasObserved P.stands_for P.same job parts.items) }
+    ensures observed { IfOk result (HasObserved P.stands_for P.same job parts.items) }
+    ensures guests { IfOk result (λ observed. observed.report.guests ≡ guests) }
 {
-    let program = ProgramTree::of(&job.loaded);
-    let limits = Limits {
-        threads: job.settings.threads,
-        steps: job.settings.steps,
-    };
-    let ran = run_serial(job.alloc, job.loaded.program, limits, parts)?;
-    Ok(with_report(job.alloc, job.settings, program, ran))
+    let limits = job.limits();
+    let Job {
+        loaded,
+        settings,
+        alloc,
+    } = job;
+    let program = ProgramTree::of(&loaded);
+    let ran = run_serial(alloc, loaded.program, limits, parts)?;
+    Ok(with_report(settings, program, ran, guests))
 }
 
 /// Does what [`observe_alone`] does for each job, by threads where it isn't serial.
@@ -45,30 +49,35 @@ pub(crate) fn observe<R: Threads + Wait + Sync, P: ToolPart>(
     rt: &R,
     job: Job,
     parts: Vec<P>,
+    guests: Guests,
 ) -> Seen<P>
     requires { length parts.items ≡ job.settings.threads }
-    ensures { IfOk result (HasObserved P.stands_for P.same job parts.items) }
+    ensures observed { IfOk result (HasObserved P.stands_for P.same job parts.items) }
+    ensures guests { IfOk result (λ observed. observed.report.guests ≡ guests) }
 {
     if job.settings.serial {
-        return observe_alone(job, parts);
+        return observe_alone(job, parts, guests);
     }
-    let program = ProgramTree::of(&job.loaded);
-    let limits = Limits {
-        threads: job.settings.threads,
-        steps: job.settings.steps,
-    };
-    let ran = run_threads(rt, job.alloc, job.loaded.program, limits, parts)?;
-    Ok(with_report(job.alloc, job.settings, program, ran))
+    let limits = job.limits();
+    let Job {
+        loaded,
+        settings,
+        alloc,
+    } = job;
+    let program = ProgramTree::of(&loaded);
+    let ran = run_threads(rt, alloc, loaded.program, limits, parts)?;
+    Ok(with_report(settings, program, ran, guests))
 }
 
-/// What a run of this program with these settings gave.
+/// What a run of this program with these settings gave, with these guests in its report.
 fn with_report<P: ToolPart>(
-    alloc: Global,
     settings: Settings,
     program: ProgramTree,
     ran: Ran<P>,
+    guests: Guests,
 ) -> Observed<P>
-    ensures { (job : Job) (parts : List P) → settings ≡ job.settings → IsOf job.loaded program →
+    ensures guests { result.report.guests ≡ guests }
+    ensures observed { (job : Job) (parts : List P) → settings ≡ job.settings → IsOf job.loaded program →
         IsRan P.stands_for P.same settings.serial
         (run_of program.tree.value settings.threads settings.steps ran) parts ran →
         HasObserved P.stands_for P.same job parts result }
@@ -83,7 +92,7 @@ fn with_report<P: ToolPart>(
             steps: settings.steps,
             serial: settings.serial,
             history: ran.history,
-            guests: Vec::new(alloc),
+            guests,
         },
         parts: ran.parts,
         text: ran.text,

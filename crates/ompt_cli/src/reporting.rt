@@ -13,7 +13,7 @@ use crate::guests::Guests;
 use crate::job::Job;
 use crate::keepers::{Keeper, keepers};
 use crate::observing::{Observed, Seen};
-use crate::report::{AfterRun, Came, Report};
+use crate::report::{AfterRun, Came};
 use crate::runner::Runner;
 use crate::writing::write_made;
 use omp_codes::PROFILE_MASK;
@@ -55,14 +55,7 @@ pub(crate) fn run_kept<X: Runner, P: Keeper>(runner: &X, job: Job, guests: Guest
     ensures guests { IfOk result (λ observed. observed.report.guests ≡ guests) }
 {
     let mut parts = keepers::<P>(job.alloc, job.settings.threads)?;
-    let observed = runner.run(job, &mut parts)?;
-    Ok(Observed {
-        report: Report {
-            guests,
-            ..observed.report
-        },
-        ..observed
-    })
+    runner.run(job, &mut parts, guests)
 }
 
 /// Runs the job, and writes the trace of the run. The guests come back as they were.

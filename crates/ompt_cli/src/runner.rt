@@ -5,7 +5,7 @@ ghost use Rattle.std.specs.Thread.{IsSync};
 ghost use Rattle.ompt_cli.specs.Names.{HandedFor, SameHanded, ProfiledFor, SameProfiled};
 ghost use Rattle.ompt_cli.specs.Reports.{HasObserved};
 
-use crate::guests::Held;
+use crate::guests::{Guests, Held};
 use crate::job::Job;
 use crate::keepers::Keeper;
 use crate::observing::{Seen, observe, observe_alone};
@@ -18,11 +18,12 @@ pub(crate) trait Runner {
     /// Whether it runs jobs that are serial, or jobs that aren't.
     ghost may_run: { Self → Bool → Type 0 };
 
-    /// Runs the job with the parts that this list has. What the list holds afterwards is no clause. The report has no guests.
-    fn run<P: Keeper>(&self, job: Job, parts: &mut Vec<P>) -> Seen<P>
+    /// Runs the job with the parts that this list has. What the list holds afterwards is no clause. The guests of the report are these.
+    fn run<P: Keeper>(&self, job: Job, parts: &mut Vec<P>, guests: Guests) -> Seen<P>
         requires kind { may_run self.now job.settings.serial }
         requires parts { length parts.old.items ≡ job.settings.threads }
-        ensures { IfOk result (HasObserved P.stands_for P.same job parts.old.items) };
+        ensures observed { IfOk result (HasObserved P.stands_for P.same job parts.old.items) }
+        ensures guests { IfOk result (λ observed. observed.report.guests ≡ guests) };
 
     /// Runs the job with these parts. The report has no guests.
     fn run_guests(&self, job: Job, parts: Vec<Held>) -> Seen<Held>
@@ -47,16 +48,18 @@ pub(crate) struct Alone;
 impl Runner for Alone {
     ghost may_run = { λ _ serial. serial ≡ true };
 
-    fn run<P: Keeper>(&self, job: Job, parts: &mut Vec<P>) -> Seen<P> {
-        P::run_alone(job, parts)
+    fn run<P: Keeper>(&self, job: Job, parts: &mut Vec<P>, guests: Guests) -> Seen<P> {
+        P::run_alone(job, parts, guests)
     }
 
     fn run_guests(&self, job: Job, parts: Vec<Held>) -> Seen<Held> {
-        observe_alone(job, parts)
+        let none = Vec::new(job.alloc);
+        observe_alone(job, parts, none)
     }
 
     fn run_joined(&self, job: Job, parts: Vec<Profiled<Held>>) -> Seen<Profiled<Held>> {
-        observe_alone(job, parts)
+        let none = Vec::new(job.alloc);
+        observe_alone(job, parts, none)
     }
 }
 
@@ -67,15 +70,17 @@ pub(crate) struct WithThreads<'a, R>(pub &'a R);
 impl<'a, R: Threads + Wait + Sync> Runner for WithThreads<'a, R> {
     ghost may_run = { λ _ _. IsSync R.row };
 
-    fn run<P: Keeper>(&self, job: Job, parts: &mut Vec<P>) -> Seen<P> {
-        P::on_threads(self.0, job, parts)
+    fn run<P: Keeper>(&self, job: Job, parts: &mut Vec<P>, guests: Guests) -> Seen<P> {
+        P::on_threads(self.0, job, parts, guests)
     }
 
     fn run_guests(&self, job: Job, parts: Vec<Held>) -> Seen<Held> {
-        observe(self.0, job, parts)
+        let none = Vec::new(job.alloc);
+        observe(self.0, job, parts, none)
     }
 
     fn run_joined(&self, job: Job, parts: Vec<Profiled<Held>>) -> Seen<Profiled<Held>> {
-        observe(self.0, job, parts)
+        let none = Vec::new(job.alloc);
+        observe(self.0, job, parts, none)
     }
 }

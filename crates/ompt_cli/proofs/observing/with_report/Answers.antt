@@ -2,8 +2,8 @@ use Rattle.std.proofs.Common.{ap}
 use Rattle.ompt_cli.proofs.Halting.{parts-outside}
 use Rattle.ompt_cli.proofs.observing.with_report.Goals as goal
 
-pub returns : goal.returns
-returns g c = λ job parts asked loaded ran. record {
+pub returns-clause-observed : goal.returns-clause-observed
+returns-clause-observed g c = λ job parts asked loaded ran. record {
   observes = record {
     asked = asked;
     program_is = loaded.tree;
