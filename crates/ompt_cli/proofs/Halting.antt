@@ -21,7 +21,7 @@ use Rattle.c_model.proofs.GrammarTrees.{spelled_is_formed}
 use Rattle.nested_runs.proofs.Nesting.{nested}
 use Rattle.team_run.{specs.Serving.RunsParts, specs.Unheard.IsUnheard, specs.Unheard.LeftAt, proofs.Visiting.all_none-at}
 use Rattle.ompt_cli.specs.Names.{Callback, Halt, Entry, threads_over, Legal, after, Run, State, pending_at, PROFILE_MASK, Record, Cause, cause_of, main_returned, trace_of}
-use Rattle.ompt_cli.specs.{Runs.AreOutside, Runs.IsReturn, Runs.IsWhole, Text.Spells, Traces.IsNested}
+use Rattle.ompt_cli.specs.{Commands.AreOutside, Commands.IsReturn, Commands.IsWhole, Text.Spells, Traces.IsNested}
 
 -- the thread was made and hasn't ended
 abbrev IsIn : Thread → Type 0

@@ -1,7 +1,6 @@
 -- What is known of a report, in the words of `top`.
 use Rattle.std.proofs.Common.{◌∙◌, ◌≢◌, ◌<◌, ◌≤◌, ◌⊎◌, inl, inr, arith, Bool, ◌≡◌, ℕ, List, refl, sym, ap}
-use Rattle.std.specs.Prelude.{Err, Result}
-use Rattle.std.specs.declared.{alloc.Global.Global, dyn_box.DynBox.DynBox}
+use Rattle.std.specs.{declared.alloc.Global.Global, declared.dyn_box.DynBox.DynBox}
 use Rattle.ompt_words.specs.declared.settings.RunOutput.TheVariants as output
 use Rattle.ompt_words.specs.declared.settings.Request.TheVariants as request
 use Rattle.ompt_cli.specs.declared.end.End.TheVariants as end
@@ -43,12 +42,8 @@ served-after stands_for Same command asked is (inl printed) serial run cause his
 served-after stands_for Same command asked is (inr filed) serial run cause history guests after serve = rw (is ∙ filed) serve
 
 -- the settings of the same request
-abbrev settings_asked : Request → Settings → Settings
-settings_asked (request.Run settings) other = settings
-settings_asked (request.Read command) other = other
-
 pub same-settings : (found : Request) (settings other : Settings) → found ≡ request.Run settings → found ≡ request.Run other → settings ≡ other
-same-settings found settings other is same = ap (λ (asked : Request). settings_asked asked settings) (sym is ∙ same)
+same-settings found settings other is same = cc
 
 -- a count that rose shows a write that failed
 lost-write : (told : End) (before now : ℕ) → (told ≢ end.WriteFault → now ≡ before) → before < now → told ≡ end.WriteFault
@@ -81,7 +76,3 @@ ends-may why (end.Ended other) ends = tt
 ends-may why end.WriteFault ends = tt
 ends-may why end.Memory ends = tt
 ends-may why other ends = absurd ends
-
--- an error has one end
-pub err-end : {P : Type 0} (result : Result P End) (told other : End) → result ≡ Err told → result ≡ Err other → told ≡ other
-err-end result told other is wrong = let same = sym is ∙ wrong in cc

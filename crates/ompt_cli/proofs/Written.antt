@@ -1,8 +1,7 @@
 -- What is written of a run: a trace, or a history file, which is a certificate of the run.
 -- What a command that reads has written, by how it ended. No trace is refused, and a nested one has no breach. And what is so of a history file that is a certificate.
 use Rattle.std.proofs.Common.{◌≡◌, ◌⊎◌, ℕ, List, [], ◌∷◌, ◌++◌, map, Option, Some, None, IsSomeAnd, Result, Ok, Err, inl, inr, refl, ap, subst, sym, ◌∙◌, arith, ◌≢◌, ◌≤◌, length}
-use Rattle.std.specs.Prelude.{IfErr, IfOk}
-use Rattle.std.specs.Io.KnownBytes.{Appends, Keeps}
+use Rattle.std.specs.{Io.KnownBytes.Appends, Io.KnownBytes.Keeps, Prelude.IfErr, Prelude.IfOk}
 use Rattle.trace_check.specs.declared.checked.Checked.TheVariants as checks
 use Rattle.omp_model.specs.declared.cause.Cause.TheVariants as causes
 use Rattle.ompt_words.specs.declared.settings.RunOutput.TheVariants as output
@@ -52,15 +51,9 @@ module _ {Table : Type 0} {Behind : Table → Type 0} (report : Report Table Beh
   pub file-is : (text : List ℕ) (result : Option (ℕ × ℕ)) (status detail : ℕ) → text_in report ≡ text → result ≡ Some (status, detail) → result ≡ Some (status_of report.cause, detail_of report.cause)
       → record { threads = report.threads; mask = report.mask; steps = report.steps; text = text; history = report.history; status = status; detail = detail } ≡ file_of_report report
   file-is text result status detail text_is is of =
+      let pair-is : (a b : ℕ × ℕ) → Some a ≡ Some b → a ≡ b = λ a b same. cc in
       let ends = pair-is (status, detail) (status_of report.cause, detail_of report.cause) (sym is ∙ of) in
-      rw (text_is, ends.0, ends.1) refl
-    where
-      pair_of : Option (ℕ × ℕ) → ℕ × ℕ
-      pair_of None = (0, 0)
-      pair_of (Some pair) = pair
-
-      pair-is : (a b : ℕ × ℕ) → Some a ≡ Some b → (a.0 ≡ b.0) × (a.1 ≡ b.1)
-      pair-is a b same = (ap (λ (found : Option (ℕ × ℕ)). (pair_of found).0) same, ap (λ (found : Option (ℕ × ℕ)). (pair_of found).1) same)
+      rw (text_is, ap (λ (pair : ℕ × ℕ). pair.0) ends, ap (λ (pair : ℕ × ℕ). pair.1) ends) refl
 
   -- what is written of the run is what is written of the file
   pub filed-text : report.command ≡ Running output.History → report.cause ≢ causes.Memory → history_spelling (history_fields (file_of_report report)) ≡ run_text (Some report)

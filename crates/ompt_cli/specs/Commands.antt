@@ -1,5 +1,5 @@
 -- What a command does: what its words and its text decide, what it reports of its run, and what it writes.
-use Rattle.std.specs.Prelude.{ℕ, ◌≤◌, length, ◌≡◌, ◌≢◌, ◌⊎◌, ⊤, IsSome, IsSomeAnd, List, [], ◌++◌, Option, Some, None, string_bytes}
+use Rattle.std.specs.Prelude.{ℕ, ◌<◌, ◌≤◌, true, length, ◌≡◌, ◌≢◌, ⊤, List, [], ◌++◌, Option, Some, None, string_bytes}
 use Rattle.std.specs.{Io.KnownBytes.Appends, Io.KnownBytes.Keeps, declared.string.String.String, declared.alloc.Global.Global}
 use Rattle.omp_model.specs.declared.cause.Cause.TheVariants as cause
 use Rattle.ompt_words.specs.declared.settings.RunOutput.TheVariants as output
@@ -7,7 +7,7 @@ use Rattle.tool_report.specs.Timeline.{timeline_of}
 use Rattle.ompt_words.specs.declared.settings.Command.TheVariants.{List as Listing, Profile as Profiling, Timeline as Timelining}
 use Rattle.team_run.specs.Program.{run_of_program}
 use Rattle.ompt_cli.specs.Names.{AppendsFront, Rose, TreeView, Cause, Run, records_of, lines_of, after, EventRecord, generated, summary_of, AreShared, profile_of, SEQ_LIMIT, fields_of, spelling}
-use Rattle.ompt_cli.specs.Names.{trace_of, file_of, history_fields, history_spelling, Entry, Command, Generating, Recording, Running, Settings}
+use Rattle.ompt_cli.specs.Names.{pending_at, threads_over, main_returned, trace_of, file_of, history_fields, history_spelling, Entry, Command, Generating, Recording, Running, Settings}
 use Rattle.ompt_cli.specs.declared.end.End.TheVariants.{Ended, Shown, Usage, Refused, ReadFault, WriteFault, Memory}
 use Rattle.ompt_cli.specs.declared.{end.Refusal.Refusal, end.End.End, report.Report.Report}
 
@@ -21,6 +21,21 @@ text_in report = report.program.text.value.items
 -- the run that a report is of
 abbrev pub run_of : {Table : Type 0} {Behind : Table → Type 0} → Report Table Behind → Run
 run_of report = run_of_program (program_in report) report.mask report.threads report.steps
+
+-- every thread that was made has ended, and main has returned
+pub record IsWhole (run : Run) (history : List Entry) : Type 0 where
+  pub over : threads_over (after run history).world ≡ true
+  pub returned : main_returned (after run history).world ≡ true
+
+-- the cause is Done or Returned
+abbrev pub IsReturn : Cause → Type 0
+IsReturn cause.Done = ⊤
+IsReturn (cause.Returned value) = ⊤
+IsReturn other = ⊥
+
+-- no thread of the run is inside a callback
+abbrev pub AreOutside : Run → List Entry → Type 0
+AreOutside run history = (k : ℕ) → k < run.threads → pending_at (after run history) k ≡ None
 
 -- nothing is written of a run that found no memory
 abbrev pub unless_memory : Cause → List ℕ → List ℕ
@@ -74,10 +89,6 @@ run_text (Some report) = unless_memory report.cause (written_by report.command (
 abbrev pub out_of : {Table : Type 0} {Behind : Table → Type 0} → Option (String Global) → Option (Report Table Behind) → List ℕ
 out_of None ran = run_text ran
 out_of (Some text) ran = string_bytes text
-
--- a command has something to write: a text that its words ask for, or what a run gave that found memory
-abbrev pub HasOutput : {Table : Type 0} {Behind : Table → Type 0} → Option (String Global) → Option (Report Table Behind) → Type 0
-HasOutput shown ran = IsSome shown ⊎ IsSomeAnd ran (λ report. report.cause ≢ cause.Memory)
 
 -- the settings with which a report's run was made
 abbrev pub settings_in : {Table : Type 0} {Behind : Table → Type 0} → Report Table Behind → Settings

@@ -2,7 +2,6 @@ pub mod Names
 pub mod Words
 pub mod Text
 pub mod Ends
-pub mod Runs
 pub mod Commands
 pub mod Guests
 pub mod Reports

@@ -3,11 +3,11 @@ use Rattle.std.specs.Prelude.{ℕ, ◌≡◌, ◌≢◌, List, Option, Some, IsS
 use Rattle.std.specs.declared.{alloc.Global.Global, dyn_box.DynBox.DynBox}
 use Rattle.omp_model.specs.declared.cause.Cause.TheVariants as cause
 use Rattle.ompt_words.specs.declared.settings.RunOutput.TheVariants as output
-use Rattle.team_run.specs.{Program.RunsTo, Serving.AreSame, Serving.RunsParts, Standing.HearsSilent}
+use Rattle.team_run.specs.{declared.ran.Ran.Ran, Program.IsRan, Program.RunsTo, Program.run_of as ran_of, Serving.AreSame, Serving.RunsParts, Standing.HearsSilent}
 use Rattle.ompt_cli.specs.Names.{PROFILE_MASK, AreAlways, after, records_of, EventRecord, AreKept, Record, Recording, Running, trace_of, IsTrace, IsCertificate, IsHistoryFile}
 use Rattle.ompt_cli.specs.Commands.{CountsFaults, EndsAs, HasGuests, HasWritten, program_in, run_of, run_text, settings_in, text_in}
 use Rattle.ompt_cli.specs.{declared.end.End.End, declared.end.End.TheVariants.Memory, declared.end.End.TheVariants.WriteFault, declared.job.Job.Job, declared.observing.Observed.Observed}
-use Rattle.ompt_cli.specs.{declared.report.Report.Report, Guests.GuestsAfter, Histories.file_of_report, Runs.AreOutside}
+use Rattle.ompt_cli.specs.{declared.report.Report.Report, Guests.GuestsAfter, Histories.file_of_report, Commands.AreOutside}
 
 -- a command that ended so has written what a program printed, and more may be written behind it: it ran guests and was asked for no history,
 -- and neither memory nor a write failed
@@ -48,6 +48,11 @@ pub record Reports {O Table : Type 0} {Behind : Table → Type 0} (stands_for : 
   pub guests_are : GuestsAfter stands_for guests report
   pub written : HasWritten end (run_text (Some report)) (held out) (held out_now)
   pub faults : CountsFaults end WriteFault (writes_failed out) (writes_failed out_now)
+
+-- this was answered of a run of this job with these parts
+abbrev pub RunsJob : {P : Type 0} → (P → Record → Type 0) → (P → P → Type 0) → Job → List P → Ran P → Type 0
+RunsJob stands_for Same job parts ran =
+    IsRan stands_for Same job.settings.serial (ran_of job.loaded.program job.settings.threads job.settings.steps ran) parts ran
 
 -- the parts of a run of this job: they were called for what their threads heard, and are those that were given. The run printed this
 -- text

@@ -2,7 +2,7 @@
 -- What a command comes to that has a text to run: the program that it spells, or an end before a run.
 use Rattle.std.specs.Prelude.{ℕ, ◌≡◌, ◌<◌, ◌≤◌, List, [], ◌∷◌, length, Option, Some, None, IfSome, IsSomeAnd}
 use Rattle.ompt_words.specs.declared.settings.Command.TheVariants.{Generate}
-use Rattle.ompt_cli.specs.Names.{Spot, Token, TokenFault, beginning, Reads, EndsIn, main_of, Tree, TreeView, root_tree, HasSyntaxFault, IsTreeOf, CheckFault, rule_fault_in, generated, Command}
+use Rattle.ompt_cli.specs.Names.{Spot, Token, beginning, Reads, EndsIn, main_of, Tree, TreeView, root_tree, HasSyntaxFault, IsTreeOf, CheckFault, rule_fault_in, generated, Command}
 use Rattle.ompt_cli.specs.{declared.end.Refusal.Refusal, declared.end.Refusal.TheVariants.Tokens, declared.end.Refusal.TheVariants.Syntax, declared.end.Refusal.TheVariants.Rule}
 use Rattle.ompt_cli.specs.{declared.end.Refusal.TheVariants.TooLong, Commands.IsBeforeRun, Commands.MayRefuse, Commands.MayRun, declared.end.End.End, declared.end.End.TheVariants.Refused}
 use Rattle.ompt_cli.specs.{declared.job.Loaded.Loaded, declared.report.ProgramTree.ProgramTree}
@@ -42,20 +42,13 @@ pub record Spells (text : List ℕ) (program : TreeView) : Type 0 where
   pub read : IsReadAs text program
   pub keeps : rule_fault_in (root_tree program) program.end program.main ≡ None
 
--- the text isn't too long, and its reading as tokens ends in this fault
-abbrev pub HasFault : TokenFault → List ℕ → Type 0
-HasFault fault text = (length text ≤ 65536) × EndsIn beginning text fault
-
--- the text isn't too long and is a program by the grammar, and the first rule that it breaks is broken so
-abbrev pub HasCheckFault : CheckFault → List ℕ → Type 0
-HasCheckFault fault text =
-    (length text ≤ 65536) × ((tokens : List Token) × (tree : Tree) × HasTree text tokens tree × (rule_broken text tokens tree ≡ Some fault))
-
--- the text is refused for this: it is too long, or else its tokens have a fault, or else it is no program, or else it breaks a rule
+-- the text is refused for this: it is too long, or else its reading as tokens ends in this fault, or else it is no program by the
+-- grammar, or else this is the first rule that it breaks
 abbrev pub IsRefused : Refusal → List ℕ → Type 0
-IsRefused (Tokens found) text = HasFault found text
+IsRefused (Tokens found) text = (length text ≤ 65536) × EndsIn beginning text found
 IsRefused (Syntax found) text = (length text ≤ 65536) × HasSyntaxFault text found
-IsRefused (Rule found) text = HasCheckFault found text
+IsRefused (Rule found) text =
+    (length text ≤ 65536) × ((tokens : List Token) × (tree : Tree) × HasTree text tokens tree × (rule_broken text tokens tree ≡ Some found))
 IsRefused TooLong text = 65536 < length text
 
 -- the text runs

@@ -8,16 +8,17 @@ use Rattle.omp_model.specs.Serial.{WholeSerial, serial as history_of_serial}
 use Rattle.team_run.specs.Standing.{HearsSilent}
 use Rattle.ompt_cli.specs.Names.{Rose, PROFILE_MASK, AreAlways, Cause, cause_of, Legal, Serial, trace_of, IsTrace, IsCertificate, WritesHistory, AreReadAs, AreWrong, AskForText, HoldBoth, AskInForm}
 use Rattle.ompt_cli.specs.Names.{InForm, own_settings, Generating, Recording, Running, Settings, ReadCommand}
-use Rattle.ompt_cli.specs.Commands.{EndsAs, EndsRun, HasOutput, HasWritten, IsReading, IsShowing, HasGuests, IsUnread, MayRefuse, MayRun, out_of, program_in, run_of, run_text, settings_in, text_in}
+use Rattle.ompt_cli.specs.Commands.{EndsAs, EndsRun, HasWritten, IsReading, IsShowing, HasGuests, IsUnread, MayRefuse, MayRun, out_of, program_in, run_of, run_text, settings_in, text_in}
 use Rattle.ompt_cli.specs.declared.end.End.TheVariants.{Ended, Shown, Usage, Refused, ReadFault, WriteFault, Memory}
-use Rattle.ompt_cli.specs.{Runs.AreOutside, Runs.IsReturn, Runs.IsWhole, Histories.file_of_report, Text.IsProgram, Text.IsRefused, Text.Spells, Text.text_for, Traces.HasReadInput, Traces.IsNested}
+use Rattle.ompt_cli.specs.{Commands.AreOutside, Commands.IsReturn, Commands.IsWhole, Histories.file_of_report, Text.IsProgram, Text.IsRefused, Text.Spells, Text.text_for, Traces.HasReadInput, Traces.IsNested}
 use Rattle.ompt_cli.specs.{Words.AskFor, Words.AskForRun, Words.AskToRead, declared.end.End.End, declared.end.Refusal.Refusal, declared.report.Report.Report}
 
 -- What the words decide: which of a run, a text that is shown and a trace or a history file that is read is there, one at most, and which
 -- ends there may be. Words are refused only where clap may find a mistake in them, or where they are `run` with both `--history` and
 -- `--profile`, and these always are. Words that ask for a run aren't, and a text is read only for them. A text is shown only where clap
 -- may say so, and words of the form up to `--help` or `--version` have theirs shown. A trace or a history file is read only where the
--- words ask for it, and for no others. An end that tells of a run comes with that run.
+-- words ask for it, and for no others. An end that tells of a run comes with that run, and a write that failed had something to write: a
+-- text that the words ask for, or what a run gave that found memory.
 pub record FollowsWords {Table : Type 0} {Behind : Table → Type 0} (words : List (List ℕ)) (end : End) (shown : Option (String Global))
     (read : Option ReadCommand) (ran : Option (Report Table Behind)) : Type 0 where
   pub usage : end ≡ Usage → AreWrong words × IsNone ran × IsNone shown × IsNone read
@@ -31,7 +32,7 @@ pub record FollowsWords {Table : Type 0} {Behind : Table → Type 0} (words : Li
       (read ≡ Some command) ⊎ ((end ≡ Memory) × IsNone ran × IsNone shown × IsNone read)
   pub read_alone : IfSome read (λ command. AreReadAs words (request.Read command) × IsReading end × IsNone ran × IsNone shown)
   pub ended : (why : Cause) → end ≡ Ended why → IsSomeAnd ran (λ report. report.cause ≡ why)
-  pub unwritten : end ≡ WriteFault → IsNone read → HasOutput shown ran
+  pub unwritten : end ≡ WriteFault → IsNone read → IsSome shown ⊎ IsSomeAnd ran (λ report. report.cause ≢ causes.Memory)
 
 -- What a report says of its run. It ran with the command, the threads and the steps that the words ask for, and serially where they do:
 -- where they are in the form, their own with the defaults. What ran is the program that the text spells, which is the source's. Its

@@ -6,9 +6,8 @@ use Rattle.trace_copy.specs.declared.copied.Copied.TheVariants as copied
 use Rattle.tool_tasks.specs.declared.unread.Unread.TheVariants as unread
 use Rattle.trace_copy.specs.{declared.form.Form.TheVariants.Lines, declared.form.Form.TheVariants.SecondVersion, declared.form.Form.Form, Copying.HasCopied}
 use Rattle.ompt_cli.specs.Names.{AppendsFront, Writes, Refusal, Trace, Breach, HasChecked, Nested, HasReadNested, IsForestText, ReadCommand, Check, Migrate, Rerun, Show, Tasks, HistoryFile}
-use Rattle.ompt_cli.specs.Names.{WritesHistory}
+use Rattle.ompt_cli.specs.{Histories.Certifies, Histories.HasRerun, Histories.MayCertify, declared.end.End.End, Names.WritesHistory}
 use Rattle.ompt_cli.specs.declared.end.End.TheVariants.{Read, TraceRefused, Broken, ReadFault, WriteFault, Memory}
-use Rattle.ompt_cli.specs.{Histories.Certifies, Histories.HasRerun, Histories.MayCertify, declared.end.End.End}
 
 -- the trace breaks no rule of the checker
 abbrev pub IsNested : Trace → Type 0

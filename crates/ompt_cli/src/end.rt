@@ -1,8 +1,7 @@
 //! How a command ended: its status and its line on standard error.
 
-ghost use Rattle.std.specs.Prelude.{◌≡◌, ◌≤◌, ◌∷◌, ◌++◌, [], codes, length};
-ghost use Rattle.std.specs.Fmt.{decimal, signed_decimal};
-ghost use Rattle.std.specs.Process.{exit_status};
+ghost use Rattle.std.specs.{Fmt.decimal, Fmt.signed_decimal, Prelude.◌≡◌, Prelude.◌≤◌, Prelude.◌∷◌, Prelude.◌++◌, Prelude.[]};
+ghost use Rattle.std.specs.{Prelude.codes, Prelude.length, Process.exit_status};
 ghost use Rattle.run_trace.specs.TraceOf.{status_of as status_of_cause};
 ghost use Rattle.ompt_cli.specs.Ends.{line_at, line_of_cause, line_of_end, refusal_at, refusal_text, status_of};
 

@@ -1,13 +1,10 @@
 //! What is to run.
 
-ghost use Rattle.std.specs.Prelude.{◌≡◌, ◌≤◌, IfOk, length};
+ghost use Rattle.std.specs.Prelude.{◌≤◌, length};
 
 use c_check::Program;
-use history_file::FileText;
-use ompt_calls::Sequence;
 use ompt_words::Settings;
-use std::alloc::{AllocError, Global};
-use team_run::Limits;
+use std::alloc::Global;
 
 /// A program, with the text that spells it.
 #[derive(Drop)]
@@ -32,25 +29,4 @@ pub(crate) struct Job {
     ghost steps: { 1 ≤ settings.steps },
     ghost bounded: { settings.steps ≤ 30000000 },
     ghost short: { length loaded.text.items ≤ 65536 },
-}
-
-impl Job {
-    /// How many threads and silent steps its run may have.
-    pub fn limits(&self) -> Limits
-        ensures { result ≡ record { threads = self.now.settings.threads; steps = self.now.settings.steps } }
-    {
-        Limits {
-            threads: self.settings.threads,
-            steps: self.settings.steps,
-        }
-    }
-
-    /// The program's text once more.
-    pub fn copied_text(&self) -> Result<FileText, AllocError>
-        ensures { IfOk result (λ text. text ≡ self.now.loaded.text.items) }
-    {
-        let mut text = Vec::new(self.alloc);
-        text.extend_from_slice(self.loaded.text.as_slice())?;
-        Ok(Sequence(text))
-    }
 }

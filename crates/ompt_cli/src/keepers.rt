@@ -4,11 +4,10 @@ ghost use Rattle.std.specs.Prelude.{ℕ, ◌≡◌, ◌↔◌, IfOk, List, [], l
 ghost use Rattle.std.specs.Thread.{IsSync};
 ghost use Rattle.ompt_cli.specs.Names.{Record, EventRecord, generated, summary_of, AreKept, AreShared, KeeperFor};
 ghost use Rattle.ompt_words.specs.declared.settings.Command.{Command as SeenCommand};
-ghost use Rattle.ompt_cli.specs.{Commands.columns_in, Reports.HasObserved};
+ghost use Rattle.ompt_cli.specs.{Commands.columns_in, Reports.RunsJob};
 
-use crate::guests::Guests;
 use crate::job::Job;
-use crate::observing::{Seen, observe, observe_alone};
+use crate::observing::{Gave, run_alone, run_by_threads};
 use crate::writing::Made;
 use ompt_words::Command;
 use std::alloc::{AllocError, Global};
@@ -40,23 +39,16 @@ pub(crate) trait Keeper: ToolPart {
 
     /// Runs the job, which is serial, with the parts of this list, which it takes out of it. Parts may be sent to
     /// threads, and nothing says of a type parameter of a method that it may be sent. So each kind makes its own runs.
-    fn run_alone(job: Job, parts: &mut Vec<Self>, guests: Guests) -> Seen<Self>
+    fn run_alone(job: Job, parts: &mut Vec<Self>) -> Gave<Self>
         requires serial { job.settings.serial ≡ true }
         requires parts { length parts.old.items ≡ job.settings.threads }
-        ensures observed { IfOk result (HasObserved Self.stands_for Self.same job parts.old.items) }
-        ensures guests { IfOk result (λ observed. observed.report.guests ≡ guests) };
+        ensures { IfOk result (RunsJob Self.stands_for Self.same job parts.old.items) };
 
     /// Does what [`Keeper::run_alone`] does for each job, by threads where it isn't serial.
-    fn on_threads<R: Threads + Wait + Sync>(
-        rt: &R,
-        job: Job,
-        parts: &mut Vec<Self>,
-        guests: Guests,
-    ) -> Seen<Self>
+    fn on_threads<R: Threads + Wait + Sync>(rt: &R, job: Job, parts: &mut Vec<Self>) -> Gave<Self>
         requires sync { IsSync R.row }
         requires parts { length parts.old.items ≡ job.settings.threads }
-        ensures observed { IfOk result (HasObserved Self.stands_for Self.same job parts.old.items) }
-        ensures guests { IfOk result (λ observed. observed.report.guests ≡ guests) };
+        ensures { IfOk result (RunsJob Self.stands_for Self.same job parts.old.items) };
 
     ghost stands: { (kept : Self) (h : Record) → KeeperFor keep kept h ↔ Self.stands_for kept h };
 }
@@ -79,19 +71,14 @@ impl Keeper for Recorder {
         }
     }
 
-    fn run_alone(job: Job, parts: &mut Vec<Self>, guests: Guests) -> Seen<Self> {
+    fn run_alone(job: Job, parts: &mut Vec<Self>) -> Gave<Self> {
         let list = mem::replace(parts, Vec::new(job.alloc));
-        observe_alone(job, list, guests)
+        run_alone(job, list)
     }
 
-    fn on_threads<R: Threads + Wait + Sync>(
-        rt: &R,
-        job: Job,
-        parts: &mut Vec<Self>,
-        guests: Guests,
-    ) -> Seen<Self> {
+    fn on_threads<R: Threads + Wait + Sync>(rt: &R, job: Job, parts: &mut Vec<Self>) -> Gave<Self> {
         let list = mem::replace(parts, Vec::new(job.alloc));
-        observe(rt, job, list, guests)
+        run_by_threads(rt, job, list)
     }
 
     ghost stands = { λ kept h. (λ for. for, λ for. for) };
@@ -113,19 +100,14 @@ impl Keeper for Profile {
         profile_text(alloc, parts)
     }
 
-    fn run_alone(job: Job, parts: &mut Vec<Self>, guests: Guests) -> Seen<Self> {
+    fn run_alone(job: Job, parts: &mut Vec<Self>) -> Gave<Self> {
         let list = mem::replace(parts, Vec::new(job.alloc));
-        observe_alone(job, list, guests)
+        run_alone(job, list)
     }
 
-    fn on_threads<R: Threads + Wait + Sync>(
-        rt: &R,
-        job: Job,
-        parts: &mut Vec<Self>,
-        guests: Guests,
-    ) -> Seen<Self> {
+    fn on_threads<R: Threads + Wait + Sync>(rt: &R, job: Job, parts: &mut Vec<Self>) -> Gave<Self> {
         let list = mem::replace(parts, Vec::new(job.alloc));
-        observe(rt, job, list, guests)
+        run_by_threads(rt, job, list)
     }
 
     ghost stands = { λ kept h. (λ for. for, λ for. for) };
@@ -151,19 +133,14 @@ impl Keeper for Timeline {
         }
     }
 
-    fn run_alone(job: Job, parts: &mut Vec<Self>, guests: Guests) -> Seen<Self> {
+    fn run_alone(job: Job, parts: &mut Vec<Self>) -> Gave<Self> {
         let list = mem::replace(parts, Vec::new(job.alloc));
-        observe_alone(job, list, guests)
+        run_alone(job, list)
     }
 
-    fn on_threads<R: Threads + Wait + Sync>(
-        rt: &R,
-        job: Job,
-        parts: &mut Vec<Self>,
-        guests: Guests,
-    ) -> Seen<Self> {
+    fn on_threads<R: Threads + Wait + Sync>(rt: &R, job: Job, parts: &mut Vec<Self>) -> Gave<Self> {
         let list = mem::replace(parts, Vec::new(job.alloc));
-        observe(rt, job, list, guests)
+        run_by_threads(rt, job, list)
     }
 
     ghost stands = { λ kept h. (λ for. for, λ for. for) };

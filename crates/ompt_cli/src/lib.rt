@@ -20,7 +20,7 @@
 //!
 //! The definitions stand in `specs/`: which words ask for a run or for an input to be read (`Words`), the texts that run, with their
 //! programs, why others are refused, and what a command comes to that has a text (`Text`), the status and the line of each end (`Ends`),
-//! how runs have ended (`Runs`), what a command writes (`Commands`) and reports (`Reports`), what one that reads a trace (`Traces`) or a
+//! how runs have ended and what a command writes (`Commands`) and reports (`Reports`), what one that reads a trace (`Traces`) or a
 //! history file (`Histories`) has read and written, what guests stand for after a command (`Guests`), and the records of [`top`]'s contract
 //! (`Top`). What a run of either kind gives is said in `team_run`. A report holds the tree of its program and its text for contracts alone
 //! ([`ProgramTree`]).

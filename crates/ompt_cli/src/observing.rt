@@ -2,7 +2,7 @@
 
 ghost use Rattle.std.specs.Prelude.{◌≡◌, IfOk, List, length, true};
 ghost use Rattle.team_run.specs.Program.{IsRan, run_of};
-ghost use Rattle.ompt_cli.specs.{declared.job.Job.Job, Text.IsOf, Reports.HasObserved};
+ghost use Rattle.ompt_cli.specs.{declared.job.Job.Job, Text.IsOf, Reports.HasObserved, Reports.RunsJob};
 
 use crate::guests::Guests;
 use crate::job::Job;
@@ -11,7 +11,7 @@ use ompt_words::Settings;
 use std::alloc::AllocError;
 use std::sync::Wait;
 use std::thread::Threads;
-use team_run::{Ran, run_serial};
+use team_run::{Limits, Ran, run_serial};
 use thread_run::run_threads;
 use tool_api::ToolPart;
 
@@ -26,61 +26,80 @@ pub(crate) struct Observed<P> {
 /// What a run gave, unless there was no memory for it. A run that found none for its first entry is none.
 pub(crate) type Seen<P> = Result<Observed<P>, AllocError>;
 
-/// Runs a serial job. Part t is called for the events of thread t. The guests of the report are these.
-pub(crate) fn observe_alone<P: ToolPart>(job: Job, parts: Vec<P>, guests: Guests) -> Seen<P>
+/// The same before there is a report of it.
+pub(crate) type Gave<P> = Result<Ran<P>, AllocError>;
+
+/// Runs a serial job. Part t is called for the events of thread t.
+pub(crate) fn run_alone<P: ToolPart>(job: Job, parts: Vec<P>) -> Gave<P>
     requires serial { job.settings.serial ≡ true }
     requires parts { length parts.items ≡ job.settings.threads }
-    ensures observed { IfOk result (HasObserved P.stands_for P.same job parts.items) }
-    ensures guests { IfOk result (λ observed. observed.report.guests ≡ guests) }
+    ensures { IfOk result (RunsJob P.stands_for P.same job parts.items) }
 {
-    let limits = job.limits();
-    let Job {
-        loaded,
-        settings,
-        alloc,
-    } = job;
-    let program = ProgramTree::of(&loaded);
-    let ran = run_serial(alloc, loaded.program, limits, parts)?;
-    Ok(with_report(settings, program, ran, guests))
+    let limits = Limits {
+        threads: job.settings.threads,
+        steps: job.settings.steps,
+    };
+    let Job { loaded, alloc, .. } = job;
+    run_serial(alloc, loaded.program, limits, parts)
 }
 
-/// Does what [`observe_alone`] does for each job, by threads where it isn't serial.
+/// Does what [`run_alone`] does for each job, by threads where it isn't serial.
+pub(crate) fn run_by_threads<R: Threads + Wait + Sync, P: ToolPart>(
+    rt: &R,
+    job: Job,
+    parts: Vec<P>,
+) -> Gave<P>
+    requires { length parts.items ≡ job.settings.threads }
+    ensures { IfOk result (RunsJob P.stands_for P.same job parts.items) }
+{
+    if job.settings.serial {
+        return run_alone(job, parts);
+    }
+    let limits = Limits {
+        threads: job.settings.threads,
+        steps: job.settings.steps,
+    };
+    let Job { loaded, alloc, .. } = job;
+    run_threads(rt, alloc, loaded.program, limits, parts)
+}
+
+/// Does what [`run_alone`] does. The report has no guests.
+pub(crate) fn observe_alone<P: ToolPart>(job: Job, parts: Vec<P>) -> Seen<P>
+    requires serial { job.settings.serial ≡ true }
+    requires parts { length parts.items ≡ job.settings.threads }
+    ensures { IfOk result (HasObserved P.stands_for P.same job parts.items) }
+{
+    let (alloc, settings, program) = (job.alloc, job.settings, ProgramTree::of(&job.loaded));
+    let ran = run_alone(job, parts)?;
+    Ok(with_report(settings, program, ran, Vec::new(alloc)))
+}
+
+/// Does what [`run_by_threads`] does. The report has no guests.
 pub(crate) fn observe<R: Threads + Wait + Sync, P: ToolPart>(
     rt: &R,
     job: Job,
     parts: Vec<P>,
-    guests: Guests,
 ) -> Seen<P>
     requires { length parts.items ≡ job.settings.threads }
-    ensures observed { IfOk result (HasObserved P.stands_for P.same job parts.items) }
-    ensures guests { IfOk result (λ observed. observed.report.guests ≡ guests) }
+    ensures { IfOk result (HasObserved P.stands_for P.same job parts.items) }
 {
-    if job.settings.serial {
-        return observe_alone(job, parts, guests);
-    }
-    let limits = job.limits();
-    let Job {
-        loaded,
-        settings,
-        alloc,
-    } = job;
-    let program = ProgramTree::of(&loaded);
-    let ran = run_threads(rt, alloc, loaded.program, limits, parts)?;
-    Ok(with_report(settings, program, ran, guests))
+    let (alloc, settings, program) = (job.alloc, job.settings, ProgramTree::of(&job.loaded));
+    let ran = run_by_threads(rt, job, parts)?;
+    Ok(with_report(settings, program, ran, Vec::new(alloc)))
 }
 
 /// What a run of this program with these settings gave, with these guests in its report.
-fn with_report<P: ToolPart>(
+pub(crate) fn with_report<P: ToolPart>(
     settings: Settings,
     program: ProgramTree,
     ran: Ran<P>,
     guests: Guests,
 ) -> Observed<P>
-    ensures guests { result.report.guests ≡ guests }
     ensures observed { (job : Job) (parts : List P) → settings ≡ job.settings → IsOf job.loaded program →
         IsRan P.stands_for P.same settings.serial
         (run_of program.tree.value settings.threads settings.steps ran) parts ran →
         HasObserved P.stands_for P.same job parts result }
+    ensures guests { result.report.guests ≡ guests }
 {
     Observed {
         report: Report {

@@ -1,8 +1,7 @@
 //! How a command ended, and what it reports of its run.
 
 ghost use Rattle.std.specs.Prelude.{◌≡◌, ◌↔◌, None, IsTrue};
-ghost use Rattle.ompt_cli.specs.Reports.{HasPrinted};
-ghost use Rattle.ompt_cli.specs.Text.{IsOf};
+ghost use Rattle.ompt_cli.specs.{Reports.HasPrinted, Text.IsOf};
 
 use crate::end::End;
 use crate::job::Loaded;
@@ -102,16 +101,6 @@ impl Top {
     }
 }
 
-/// How a command ended, what it reports of its run, if there was one, the text that it was to show, if there was one, and the command that has read a
-/// trace, if one has.
-#[derive(Drop)]
-pub(crate) struct Outcome {
-    pub end: End,
-    pub ran: Option<Report>,
-    pub shown: Option<String>,
-    pub read: Option<ReadCommand>,
-}
-
 /// How a command ended that has run, and what it reports of its run.
 #[derive(Drop)]
 pub(crate) struct AfterRun {
@@ -122,11 +111,12 @@ pub(crate) struct AfterRun {
 /// How a command ended that has run, unless there was no memory for its run.
 pub(crate) type Came = Result<AfterRun, AllocError>;
 
-/// A command that ended before its run.
-pub(crate) fn without_run(end: End) -> Outcome
-    ensures { result ≡ record { end = end; ran = None; shown = None; read = None } }
+/// A command that ended before its run, with its line still to be told.
+pub(crate) fn without_run(end: End) -> Top
+    ensures { result ≡ record { status = 0; end = end; ran = None; shown = None; read = None } }
 {
-    Outcome {
+    Top {
+        status: 0,
         end,
         ran: None,
         shown: None,

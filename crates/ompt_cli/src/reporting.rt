@@ -1,8 +1,7 @@
 //! The commands that run a program with parts that keep what they are told: `list`, `profile`, `timeline` and `gen`, which report it, and `record`,
 //! which writes the trace of the run.
 
-ghost use Rattle.std.specs.Prelude.{◌≡◌, ◌≢◌, IfOk, List, OnErr};
-ghost use Rattle.std.specs.List.{All};
+ghost use Rattle.std.specs.{List.All, Prelude.◌≡◌, Prelude.◌≢◌, Prelude.IfOk, Prelude.List, Prelude.OnErr};
 ghost use Rattle.ompt_cli.specs.Names.{PROFILE_MASK, EventRecord, FitsCause, trace_with, AreShared, fields_of, spelling};
 ghost use Rattle.trace_format.specs.Fitting.{FitsFields};
 ghost use Rattle.ompt_cli.specs.Commands.{CountsFaults, EndsAs, HasGuests, HasWritten, IsSharedFew, IsWrittenBy, unless_memory};
@@ -12,8 +11,8 @@ use crate::end::End;
 use crate::guests::Guests;
 use crate::job::Job;
 use crate::keepers::{Keeper, keepers};
-use crate::observing::{Observed, Seen};
-use crate::report::{AfterRun, Came};
+use crate::observing::{Observed, Seen, with_report};
+use crate::report::{AfterRun, Came, ProgramTree};
 use crate::runner::Runner;
 use crate::writing::write_made;
 use omp_codes::PROFILE_MASK;
@@ -54,8 +53,10 @@ pub(crate) fn run_kept<X: Runner, P: Keeper>(runner: &X, job: Job, guests: Guest
     ensures kept { IfOk result (HasKept P.keep job) }
     ensures guests { IfOk result (λ observed. observed.report.guests ≡ guests) }
 {
-    let mut parts = keepers::<P>(job.alloc, job.settings.threads)?;
-    runner.run(job, &mut parts, guests)
+    let (settings, program) = (job.settings, ProgramTree::of(&job.loaded));
+    let mut parts = keepers::<P>(job.alloc, settings.threads)?;
+    let ran = runner.run(job, &mut parts)?;
+    Ok(with_report(settings, program, ran, guests))
 }
 
 /// Runs the job, and writes the trace of the run. The guests come back as they were.

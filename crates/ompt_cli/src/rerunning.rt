@@ -1,10 +1,9 @@
 //! The command `rerun`: it reads a history file, and says whether it is a certificate.
 
 ghost use Rattle.std.specs.Prelude.{ℕ, ◌<◌, ◌^◌, ◌≡◌, ◌≢◌, ◌⊎◌, ◌++◌, Err, IfErr, IfOk, IfSome, IsSomeAnd, List, MatchResult, Option, Some, length};
-ghost use Rattle.ompt_cli.specs.Names.{Rose, line_of_mark, SeenFile, IsCertificate, run_of_file, IsHistoryFile};
-ghost use Rattle.ompt_cli.specs.Names.{WritesHistory};
-ghost use Rattle.ompt_cli.specs.Commands.{CountsFaults, IsReading};
-ghost use Rattle.ompt_cli.specs.Histories.{Certifies, HasFile, HasRerun, IsUnreadFile, MayCertify, lines_of_calls};
+ghost use Rattle.ompt_cli.specs.{Commands.CountsFaults, Commands.IsReading, Histories.Certifies, Histories.HasFile, Histories.HasRerun};
+ghost use Rattle.ompt_cli.specs.{Histories.IsUnreadFile, Histories.MayCertify, Histories.lines_of_calls, Names.Rose, Names.line_of_mark};
+ghost use Rattle.ompt_cli.specs.Names.{SeenFile, IsCertificate, run_of_file, IsHistoryFile, WritesHistory};
 
 use crate::end::End;
 use crate::text::program_of;

@@ -17,6 +17,7 @@ use crate::runner::Runner;
 use crate::writing::{Made, write_made, write_run};
 use history_file::{FileText, HistoryFile, end_of, write_history};
 use omp_model::Cause;
+use ompt_calls::Sequence;
 use ompt_words::{Command, RunOutput};
 use run_edges::Sink;
 use std::alloc::{AllocError, Global};
@@ -51,7 +52,7 @@ pub(crate) fn run_history<X: Runner, O: Sink>(by: &X, job: Job, guests: Guests, 
         O.held O.faults job guests.items out.old out.new ended.end ended.report) }
     ensures untouched { OnErr result (out.new ≡ out.old) }
 {
-    let text = job.copied_text()?;
+    let text = Sequence(job.loaded.text.as_slice().to_vec(job.alloc)?);
     let Served { report, .. } = serve(by, job, guests)?;
     Ok(write_history_of_run(report, text, out))
 }

@@ -1,14 +1,13 @@
 //! What makes the runs of jobs: one thread with all turns, or a thread for each thread number.
 
-ghost use Rattle.std.specs.Prelude.{◌≡◌, Bool, IfOk, length, true};
-ghost use Rattle.std.specs.Thread.{IsSync};
+ghost use Rattle.std.specs.{Prelude.◌≡◌, Prelude.Bool, Prelude.IfOk, Prelude.length, Prelude.true, Thread.IsSync};
 ghost use Rattle.ompt_cli.specs.Names.{HandedFor, SameHanded, ProfiledFor, SameProfiled};
-ghost use Rattle.ompt_cli.specs.Reports.{HasObserved};
+ghost use Rattle.ompt_cli.specs.Reports.{HasObserved, RunsJob};
 
-use crate::guests::{Guests, Held};
+use crate::guests::Held;
 use crate::job::Job;
 use crate::keepers::Keeper;
-use crate::observing::{Seen, observe, observe_alone};
+use crate::observing::{Gave, Seen, observe, observe_alone};
 use std::sync::Wait;
 use std::thread::Threads;
 use tool_profiled::Profiled;
@@ -18,12 +17,11 @@ pub(crate) trait Runner {
     /// Whether it runs jobs that are serial, or jobs that aren't.
     ghost may_run: { Self → Bool → Type 0 };
 
-    /// Runs the job with the parts that this list has. What the list holds afterwards is no clause. The guests of the report are these.
-    fn run<P: Keeper>(&self, job: Job, parts: &mut Vec<P>, guests: Guests) -> Seen<P>
+    /// Runs the job with the parts that this list has. What the list holds afterwards is no clause.
+    fn run<P: Keeper>(&self, job: Job, parts: &mut Vec<P>) -> Gave<P>
         requires kind { may_run self.now job.settings.serial }
         requires parts { length parts.old.items ≡ job.settings.threads }
-        ensures observed { IfOk result (HasObserved P.stands_for P.same job parts.old.items) }
-        ensures guests { IfOk result (λ observed. observed.report.guests ≡ guests) };
+        ensures { IfOk result (RunsJob P.stands_for P.same job parts.old.items) };
 
     /// Runs the job with these parts. The report has no guests.
     fn run_guests(&self, job: Job, parts: Vec<Held>) -> Seen<Held>
@@ -48,18 +46,16 @@ pub(crate) struct Alone;
 impl Runner for Alone {
     ghost may_run = { λ _ serial. serial ≡ true };
 
-    fn run<P: Keeper>(&self, job: Job, parts: &mut Vec<P>, guests: Guests) -> Seen<P> {
-        P::run_alone(job, parts, guests)
+    fn run<P: Keeper>(&self, job: Job, parts: &mut Vec<P>) -> Gave<P> {
+        P::run_alone(job, parts)
     }
 
     fn run_guests(&self, job: Job, parts: Vec<Held>) -> Seen<Held> {
-        let none = Vec::new(job.alloc);
-        observe_alone(job, parts, none)
+        observe_alone(job, parts)
     }
 
     fn run_joined(&self, job: Job, parts: Vec<Profiled<Held>>) -> Seen<Profiled<Held>> {
-        let none = Vec::new(job.alloc);
-        observe_alone(job, parts, none)
+        observe_alone(job, parts)
     }
 }
 
@@ -70,17 +66,15 @@ pub(crate) struct WithThreads<'a, R>(pub &'a R);
 impl<'a, R: Threads + Wait + Sync> Runner for WithThreads<'a, R> {
     ghost may_run = { λ _ _. IsSync R.row };
 
-    fn run<P: Keeper>(&self, job: Job, parts: &mut Vec<P>, guests: Guests) -> Seen<P> {
-        P::on_threads(self.0, job, parts, guests)
+    fn run<P: Keeper>(&self, job: Job, parts: &mut Vec<P>) -> Gave<P> {
+        P::on_threads(self.0, job, parts)
     }
 
     fn run_guests(&self, job: Job, parts: Vec<Held>) -> Seen<Held> {
-        let none = Vec::new(job.alloc);
-        observe(self.0, job, parts, none)
+        observe(self.0, job, parts)
     }
 
     fn run_joined(&self, job: Job, parts: Vec<Profiled<Held>>) -> Seen<Profiled<Held>> {
-        let none = Vec::new(job.alloc);
-        observe(self.0, job, parts, none)
+        observe(self.0, job, parts)
     }
 }

@@ -1,8 +1,7 @@
 //! The texts that run.
 
 ghost use Rattle.std.specs.Prelude.{ℕ, ◌≡◌, ◌≢◌, ◌≤◌, IfOk, IfErr, Some, length};
-ghost use Rattle.ompt_cli.specs.Names.{Rose};
-ghost use Rattle.ompt_cli.specs.{Text.EndsFor, Text.IsLoaded, Text.Spells, Text.text_for};
+ghost use Rattle.ompt_cli.specs.{Names.Rose, Text.EndsFor, Text.IsLoaded, Text.Spells, Text.text_for};
 
 use crate::end::{End, Refusal};
 use crate::job::Loaded;

@@ -2,15 +2,14 @@
 
 ghost use Rattle.std.specs.Prelude.{ℕ, ◌≡◌, false, true, IfErr, IfOk, IfSome, IsNone, List, ◌⊎◌};
 ghost use Rattle.ompt_words.specs.declared.settings.Request.TheVariants as request;
-ghost use Rattle.ompt_cli.specs.Commands.{CountsFaults, HasWritten, out_of};
-ghost use Rattle.ompt_cli.specs.Words.{AreFaulty, AreInRange, AreTakenAs, texts};
-ghost use Rattle.ompt_cli.specs.{Ends.TellsEnd, Guests.GuestsAfter, Top.CarriesOut, Top.FollowsWords, Top.HasTrace};
-ghost use Rattle.ompt_cli.specs.{Top.IsRunOf, Top.JudgesText, Top.ShowsFaults, Top.StaysUntouched, Traces.HasReadInput};
+ghost use Rattle.ompt_cli.specs.{Commands.CountsFaults, Commands.HasWritten, Commands.out_of, Ends.TellsEnd, Guests.GuestsAfter};
+ghost use Rattle.ompt_cli.specs.Top.{CarriesOut, FollowsWords, HasTrace, IsRunOf, JudgesText, ShowsFaults, StaysUntouched};
+ghost use Rattle.ompt_cli.specs.{Traces.HasReadInput, Words.AreFaulty, Words.AreInRange, Words.AreTakenAs, Words.texts};
 
 use crate::commands::run_settings;
 use crate::end::End;
 use crate::read_commands::read_input;
-use crate::report::{ByThreads, Outcome, Top, without_run};
+use crate::report::{ByThreads, Top, without_run};
 use crate::runner::{Alone, WithThreads};
 use ompt_words::{Request, WordsFault, request_of};
 use run_edges::{Sink, Source, write_all};
@@ -104,7 +103,8 @@ pub fn top_alone<S: Source, O: Sink, E: Sink>(
             Ok(tell(outcome, err))
         }
         Ok(Request::Read(command)) => {
-            let outcome = Outcome {
+            let outcome = Top {
+                status: 0,
                 end: read_input(alloc, command, source, out),
                 ran: None,
                 shown: None,
@@ -139,7 +139,7 @@ fn top_by_threads<R: Threads + Wait + Sync, S: Source, O: Sink, E: Sink>(
 }
 
 /// Shows the text that the words ask for, or refuses them. Nothing is read.
-fn without_request<S: Source, O: Sink>(fault: WordsFault, _source: &S, out: &mut O) -> Outcome
+fn without_request<S: Source, O: Sink>(fault: WordsFault, _source: &S, out: &mut O) -> Top
     ensures carried { (words : List (List ℕ)) → AreFaulty words fault →
         CarriesOut S.left S.faults O.held O.faults words result.end result.shown result.read result.ran _source.now
         _source.now out.old out.new }
@@ -148,7 +148,8 @@ fn without_request<S: Source, O: Sink>(fault: WordsFault, _source: &S, out: &mut
     match fault {
         WordsFault::Usage => without_run(End::Usage),
         WordsFault::Memory => without_run(End::Memory),
-        WordsFault::Shown(text) => Outcome {
+        WordsFault::Shown(text) => Top {
+            status: 0,
             end: show(&text, out),
             ran: None,
             shown: Some(text),
@@ -169,8 +170,8 @@ fn show<O: Sink>(text: &str, out: &mut O) -> End
     }
 }
 
-/// Writes the line of the end.
-fn tell<E: Sink>(outcome: Outcome, err: &mut E) -> Top
+/// Writes the line of the end, and has the status.
+fn tell<E: Sink>(outcome: Top, err: &mut E) -> Top
     ensures end { result.end ≡ outcome.end }
     ensures ran { result.ran ≡ outcome.ran }
     ensures shown { result.shown ≡ outcome.shown }
@@ -184,11 +185,5 @@ fn tell<E: Sink>(outcome: Outcome, err: &mut E) -> Top
         Err(_) if end == End::Memory => end.status(),
         Err(_) => End::WriteFault.status(),
     };
-    Top {
-        status,
-        end,
-        ran: outcome.ran,
-        shown: outcome.shown,
-        read: outcome.read,
-    }
+    Top { status, ..outcome }
 }

@@ -1,5 +1,5 @@
 use Rattle.std.proofs.Common.{◌∙◌, Err, ap, refl, sym}
-use Rattle.ompt_cli.{specs.declared.end.End.End, specs.declared.end.End.TheVariants.Memory, specs.declared.end.End.TheVariants.ReadFault, proofs.Carrying.end_carried, proofs.Carrying.run_carried, proofs.Reading.ends-memory, proofs.Telling.err-end}
+use Rattle.ompt_cli.{specs.declared.end.End.End, specs.declared.end.End.TheVariants.Memory, proofs.Carrying.end_carried, proofs.Carrying.run_carried, proofs.Reading.ends-memory}
 use Rattle.ompt_cli.proofs.commands.run_settings.Goals as goal
 
 pub returns-in-Ok-run_command-clause-carried : goal.returns-in-Ok-run_command-clause-carried
@@ -22,6 +22,6 @@ returns-in-Err-clause-carried g c = λ words taken.
     c.in-Err.ensures.ended
     (record {
       rose = λ is. c.in-Err.ensures.read (ap (λ (told : End). Err told) is);
-      steady = λ other. c.program_for.ensures.steady (λ wrong. other (err-end c.program_for.result c.in-Err.end ReadFault c.in-Err.is wrong));
+      steady = λ other. c.program_for.ensures.steady (λ wrong. other (let same = sym c.in-Err.is ∙ wrong in cc));
     })
     c.in-Err.ensures.unread)

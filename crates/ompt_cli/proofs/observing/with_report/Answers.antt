@@ -9,7 +9,9 @@ returns-clause-observed g c = λ job parts asked loaded ran. record {
     program_is = loaded.tree;
     text_is = ap (λ list. list.items) loaded.text;
     to = ran.to;
-    outside = λ found. parts-outside g.P.ToolPart.stands_for c.args.settings.serial _ c.args.ran.cause c.args.ran.history parts c.args.ran.parts.items found ran.parts;
+    outside = λ found.
+        parts-outside g.P.ToolPart.stands_for c.args.settings.serial _ c.args.ran.cause c.args.ran.history parts c.args.ran.parts.items found
+        ran.parts;
     always = ran.always;
   };
   runs = ran.parts;

@@ -1,5 +1,4 @@
-use Rattle.std.proofs.Common.{ℕ, ◌∙◌, List, ap, refl, subst, sym}
-use Rattle.std.proofs.lemmas.Result.{IfOk-weaker}
+use Rattle.std.proofs.{Common.ℕ, Common.◌∙◌, Common.List, Common.ap, Common.refl, Common.subst, Common.sym, lemmas.Result.IfOk-weaker}
 use Rattle.omp_model.specs.Records.{records_of}
 use Rattle.ompt_cli.{specs.Commands.HasGuests, specs.Commands.run_of, specs.Commands.text_in, proofs.Telling.command-is, proofs.Telling.guests-kept, proofs.Telling.written-as}
 use Rattle.ompt_cli.proofs.reporting.report_kept.Goals as goal

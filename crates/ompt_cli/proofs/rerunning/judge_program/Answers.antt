@@ -1,5 +1,4 @@
-use Rattle.std.proofs.Common.{ap, ◌∙◌, ◌++◌, List, ℕ, length}
-use Rattle.std.proofs.lemmas.Result.{IfOk-weaker}
+use Rattle.std.proofs.{Common.ap, Common.◌∙◌, Common.◌++◌, Common.List, Common.ℕ, Common.length, lemmas.Result.IfOk-weaker}
 use Rattle.ompt_cli.{specs.Names.heard, specs.Names.run_of_file, specs.Names.line_of_mark, specs.Histories.heard_text, specs.Histories.lines_of_calls, proofs.Written.lines-heard, proofs.Written.written-rerun}
 use Rattle.ompt_cli.proofs.rerunning.judge_program.Goals as goal
 

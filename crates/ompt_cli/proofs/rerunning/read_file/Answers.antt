@@ -1,5 +1,4 @@
-use Rattle.std.proofs.Common.{ap, ◌∙◌}
-use Rattle.std.specs.Prelude.{Err}
+use Rattle.std.{proofs.Common.ap, proofs.Common.◌∙◌, specs.Prelude.Err}
 use Rattle.ompt_cli.proofs.Written.{never-long}
 use Rattle.ompt_cli.proofs.rerunning.read_file.Goals as goal
 

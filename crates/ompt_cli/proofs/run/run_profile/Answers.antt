@@ -1,5 +1,4 @@
-use Rattle.std.proofs.Common.{ℕ, ◌++◌, ◌∙◌, List, ap, subst, sym}
-use Rattle.std.proofs.lemmas.Result.{IfOk-weaker}
+use Rattle.std.proofs.{Common.ℕ, Common.◌++◌, Common.◌∙◌, Common.List, Common.ap, Common.subst, Common.sym, lemmas.Result.IfOk-weaker}
 use Rattle.ompt_words.specs.declared.settings.RunOutput.TheVariants as output
 use Rattle.ompt_cli.{specs.Names.records_of, specs.Names.profile_of, specs.Names.Running, specs.Commands.HasGuests, specs.Commands.run_of, proofs.Telling.command-is, proofs.Telling.written-as}
 use Rattle.ompt_cli.proofs.run.run_profile.Goals as goal

@@ -1,5 +1,4 @@
-use Rattle.std.proofs.Common.{Err, ap, ◌∙◌}
-use Rattle.std.proofs.lemmas.Result.{IfOk-weaker, IfErr-weaker}
+use Rattle.std.proofs.{Common.Err, Common.ap, Common.◌∙◌, lemmas.Result.IfOk-weaker, lemmas.Result.IfErr-weaker}
 use Rattle.ompt_cli.proofs.Reading.{ends-long, ends-read, loaded-read, read-whole}
 use Rattle.ompt_cli.proofs.text.read_program_of.Goals as goal
 
