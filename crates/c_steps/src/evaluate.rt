@@ -156,19 +156,14 @@ impl<'a> Scope<'a> {
         match self.tree.kind(child) {
             NodeKind::Number => Ok(self.tree.number(child)),
             NodeKind::Place => match self.tree.child(child, 0) {
-                None => Ok(self.named_number(self.tree.name(child))),
+                None => {
+                    let entry = self.entry(self.tree.name(child));
+                    Ok(number_in(self.cells, entry.first as usize))
+                }
                 Some(_) => self.node_value(child, depth),
             },
             _ => self.node_value(child, depth),
         }
-    }
-
-    /// What is in the first cell of a name.
-    #[inline(always)]
-    fn named_number(&self, name: u32) -> i32
-        ensures { result ≡ cell_at self.now.cells.now (entry_of (scope_of self.now).env name).first }
-    {
-        number_in(self.cells, self.entry(name).first as usize)
     }
 
     #[cycle(values)]

@@ -1,6 +1,6 @@
 //! The operators of expressions and reductions on numbers of 32 bits (C11 6.5).
 
-ghost use Rattle.std.specs.Prelude.{◌≡◌, ◌+ℤ◌, ◌-ℤ◌, ◌*ℤ◌, if◌then◌else◌, int_le, neg_ℤ};
+ghost use Rattle.std.specs.Prelude.{◌≡◌, ◌+ℤ◌, ◌*ℤ◌};
 ghost use Rattle.c_model.specs.Constructs.{reduction_result};
 ghost use Rattle.c_model.specs.Value.{in_range, truth, quotient, remainder, binary_result, unary_result, deciding_value};
 
@@ -20,7 +20,7 @@ pub(crate) fn binary_result(operator: BinaryOp, left: i32, right: i32) -> Result
         BinaryOp::Greater => Ok(truth(right < left)),
         BinaryOp::GreaterEqual => Ok(truth(right <= left)),
         BinaryOp::Add => sum(left, right),
-        BinaryOp::Subtract => difference(left, right),
+        BinaryOp::Subtract => left.checked_sub(right).ok_or(OVERFLOW),
         BinaryOp::Multiply => product(left, right),
         BinaryOp::Divide => quotient(left, right),
         BinaryOp::Remainder => remainder(left, right),
@@ -33,7 +33,7 @@ pub(crate) fn unary_result(operator: UnaryOp, number: i32) -> Result<i32, u8>
     ensures { result ≡ unary_result operator number }
 {
     match operator {
-        UnaryOp::Negate => opposite(number),
+        UnaryOp::Negate => number.checked_neg().ok_or(OVERFLOW),
         UnaryOp::Not => Ok(truth(number == 0)),
     }
 }
@@ -57,21 +57,9 @@ pub(crate) fn reduction_result(operator: ReductionOp, around: i32, own: i32) -> 
     match operator {
         ReductionOp::Add => sum(around, own),
         ReductionOp::Multiply => product(around, own),
-        ReductionOp::Max => Ok(greater(around, own)),
-        ReductionOp::Min => Ok(lesser(around, own)),
+        ReductionOp::Max => { if around <= own { Ok(own) } else { Ok(around) } }
+        ReductionOp::Min => { if around <= own { Ok(around) } else { Ok(own) } }
     }
-}
-
-fn greater(left: i32, right: i32) -> i32
-    ensures { result ≡ (if int_le left right then right else left) }
-{
-    if left <= right { right } else { left }
-}
-
-fn lesser(left: i32, right: i32) -> i32
-    ensures { result ≡ (if int_le left right then left else right) }
-{
-    if left <= right { left } else { right }
 }
 
 /// 1 or 0.
@@ -90,23 +78,10 @@ fn sum(left: i32, right: i32) -> Result<i32, u8>
 }
 
 #[inline(always)]
-fn difference(left: i32, right: i32) -> Result<i32, u8>
-    ensures { result ≡ in_range (left -ℤ right) }
-{
-    left.checked_sub(right).ok_or(OVERFLOW)
-}
-
-#[inline(always)]
 fn product(left: i32, right: i32) -> Result<i32, u8>
     ensures { result ≡ in_range (left *ℤ right) }
 {
     left.checked_mul(right).ok_or(OVERFLOW)
-}
-
-fn opposite(number: i32) -> Result<i32, u8>
-    ensures { result ≡ in_range (neg_ℤ number) }
-{
-    number.checked_neg().ok_or(OVERFLOW)
 }
 
 /// Toward 0.

@@ -69,7 +69,7 @@ impl Control {
             NodeKind::For => self.begin_for(cells, view, node),
             NodeKind::Return => self.begin_return(cells, view, node),
             NodeKind::SetCall => self.begin_set_call(cells, view, node),
-            NodeKind::Step => self.begin_step(cells, view, node),
+            NodeKind::Step => self.make_step(node.code, cells, view, node.child(0), None),
             NodeKind::Called => self.begin_called(cells, view, node),
             NodeKind::Print => self.begin_print(cells, view, node),
             _ => self.begin_empty(node.code, cells, view),
