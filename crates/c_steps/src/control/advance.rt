@@ -15,7 +15,7 @@ ghost use Rattle.c_steps.specs.Steps.{Advances, CanStep, Tells};
 use crate::cells::Cells;
 use crate::code::Code;
 use crate::control::Control;
-use crate::control::events::{asks, event};
+use crate::control::events::{asks, event, synchronises};
 use crate::item::Item;
 use crate::next::{Next, made};
 use crate::node::Node;
@@ -116,14 +116,7 @@ impl Control {
                 event(node, Point::MaskedEnd { codeptr })
             }
             Item::Sync { node, kind, stage } => {
-                let node = Node { code, number: node };
-                let codeptr = node.place();
-                let point = Point::Sync {
-                    kind,
-                    stage,
-                    codeptr,
-                };
-                event(node, point)
+                synchronises(Node { code, number: node }, kind, stage)
             }
             Item::Acquire { node, kind, id } => {
                 let node = Node { code, number: node };

@@ -23,7 +23,7 @@ use crate::loops::{LoopNodes, iteration_count, loop_nodes};
 use crate::next::{Next, made};
 use crate::node::Node;
 use c_model::{Ask, CELLS, MutexKind, Point, Schedule, SyncKind, SyncStage, Target, View, Work};
-use c_syntax::{Directive, NodeKind, Standalone};
+use c_syntax::{Directive, NodeKind};
 
 impl Control {
     /// The construct that a combined directive has inside begins.
@@ -177,36 +177,17 @@ pub(super) fn begin_sections(node: Node) -> Next
     event(node, Point::WorkBegin { codeptr, work })
 }
 
-/// A directive without a statement begins: a barrier or a taskwait.
+/// An event of a barrier or taskwait.
 #[inline(never)]
-pub(super) fn begin_standalone(which: Standalone, node: Node) -> Next
-    ensures { TellsOf (steps.begin_standalone which) node.entry result }
+pub(super) fn synchronises(node: Node, kind: SyncKind, stage: SyncStage) -> Next
+    ensures { TellsOf (λ tree. constructs.synchronises tree kind stage) node.entry result }
 {
-    let (codeptr, stage) = (node.place(), SyncStage::RegionBegin);
-    match which {
-        Standalone::Barrier => {
-            let kind = SyncKind::Barrier;
-            event(
-                node,
-                Point::Sync {
-                    kind,
-                    stage,
-                    codeptr,
-                },
-            )
-        }
-        Standalone::Taskwait => {
-            let kind = SyncKind::Taskwait;
-            event(
-                node,
-                Point::Sync {
-                    kind,
-                    stage,
-                    codeptr,
-                },
-            )
-        }
-    }
+    let point = Point::Sync {
+        kind,
+        stage,
+        codeptr: node.place(),
+    };
+    event(node, point)
 }
 
 /// An event stands next at a node.

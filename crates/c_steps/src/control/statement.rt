@@ -12,11 +12,11 @@ ghost use Rattle.c_steps.specs.Steps.{Advances, CanStep};
 use crate::cells::Cells;
 use crate::code::Code;
 use crate::control::Control;
-use crate::control::events::begin_standalone;
+use crate::control::events::synchronises;
 use crate::next::{Made, Next, made};
 use crate::node::Node;
-use c_model::View;
-use c_syntax::NodeKind;
+use c_model::{SyncKind, SyncStage, View};
+use c_syntax::{NodeKind, Standalone};
 
 impl Control {
     /// A statement begins. What can't stand as one is an empty statement, and so is one that is missing.
@@ -48,7 +48,14 @@ impl Control {
     {
         match node.kind() {
             NodeKind::LockCall(which) => self.begin_lock_call(cells, view, which, node),
-            NodeKind::Standalone(which) => begin_standalone(which, node),
+            NodeKind::Standalone(which) => match which {
+                Standalone::Barrier => {
+                    synchronises(node, SyncKind::Barrier, SyncStage::RegionBegin)
+                }
+                Standalone::Taskwait => {
+                    synchronises(node, SyncKind::Taskwait, SyncStage::RegionBegin)
+                }
+            },
             NodeKind::Construct(directive) => self.begin_construct(cells, view, directive, node),
             _ => made(self.make_statement(cells, view, node)),
         }

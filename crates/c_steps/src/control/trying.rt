@@ -1,11 +1,9 @@
 //! A silent step of C's own statements, made without a look at what else may stand next.
 
 ghost use Rattle.std.specs.Prelude.{◌<◌, ◌≤◌, IfSome};
-ghost use Rattle.c_syntax.specs.language.Tree.{kind_of};
-ghost use Rattle.c_model.specs.Step.{begin_statement, step_of};
+ghost use Rattle.c_model.specs.Step.{step_of};
 ghost use Rattle.c_steps.specs.ControlView.{here_at};
 ghost use Rattle.c_steps.specs.Items.{item_at};
-ghost use Rattle.c_steps.specs.NodeTrees.{tree_of};
 ghost use Rattle.c_steps.specs.OfProgram.{IsMadeFor};
 ghost use Rattle.c_steps.specs.Ready.{AreFrames, IsFront, IsItem};
 ghost use Rattle.c_steps.specs.Views.{HasNumbers};
@@ -84,7 +82,13 @@ impl Control {
             (step_of (item_at code.now (item_of plain)) (here_at code.now view self.old cells.old)) }
     {
         match plain {
-            Plain::Start(number) => self.try_statement(cells, view, Node { code, number }),
+            Plain::Start(number) => {
+                let node = Node { code, number };
+                if !is_own(node.kind()) {
+                    return false;
+                }
+                self.make_statement(cells, view, node).is_ok()
+            }
             Plain::Declare(number) => self.declare(cells, view, Node { code, number }).is_ok(),
             Plain::Leave(names) => self.leave_block(code, cells, view, names).is_ok(),
             Plain::Test { node, names } => {
@@ -98,20 +102,5 @@ impl Control {
             Plain::Return(number) => self.returns(code, cells, view, number).is_ok(),
             Plain::FallOff => self.returns(code, cells, view, 0).is_ok(),
         }
-    }
-
-    /// The step of a statement, if it is one of C's own.
-    #[tactic(auto, using(crate::proofs::Trying::attempt_of))]
-    #[inline(always)]
-    fn try_statement(&mut self, cells: &mut Cells, view: View, node: Node) -> bool
-        requires { CanStep node.code.now view self.old }
-        ensures { let program = node.entry.code.now in
-            IsAttempt program result self.old cells.old self.new cells.new (begin_statement (kind_of (tree_of node.entry))
-            (here_at program view self.old cells.old) (tree_of node.entry)) }
-    {
-        if !is_own(node.kind()) {
-            return false;
-        }
-        self.make_statement(cells, view, node).is_ok()
     }
 }
