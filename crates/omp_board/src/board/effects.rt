@@ -163,9 +163,11 @@ impl Board {
         if self.is_explicit(task) {
             return Some(Halt::Trap(NESTING));
         }
+        let (code, control) = self.tasks.code_of(task);
         match self.meeting_answer(thread, what) {
             Err(_) => Some(Halt::Trap(MISMATCH)),
-            Ok(_) => trap_if(self.tasks.is_in_exclusive(task), NESTING),
+            Ok(_) if control.is_in_exclusive(code) => Some(Halt::Trap(NESTING)),
+            Ok(_) => None,
         }
     }
 
@@ -177,7 +179,8 @@ impl Board {
             result W W }
     {
         let task = self.current(thread);
-        if self.is_explicit(task) || self.tasks.is_in_work(task) {
+        let (code, control) = self.tasks.code_of(task);
+        if self.is_explicit(task) || control.is_in_work(code) {
             Err(Halt::Trap(NESTING))
         } else {
             Ok(())
@@ -222,7 +225,8 @@ impl Board {
     {
         match kind {
             MutexKind::Critical => {
-                if self.tasks.is_in_critical(self.current(thread), wait_id) {
+                let (code, control) = self.tasks.code_of(self.current(thread));
+                if control.is_in_critical(code, wait_id) {
                     Err(Halt::Trap(NESTING))
                 } else {
                     Ok(())
@@ -398,17 +402,6 @@ impl Board {
             self.pool.task(task).kind,
             TaskKind::Explicit | TaskKind::Undeferred
         )
-    }
-}
-
-/// The trap with this number, where the rule is broken.
-fn trap_if(is_broken: bool, number: u8) -> Option<Halt>
-    ensures { result ≡ effects.trap_if is_broken number }
-{
-    if is_broken {
-        Some(Halt::Trap(number))
-    } else {
-        None
     }
 }
 

@@ -148,7 +148,8 @@ impl Board {
     {
         let (region, member) = self.place_in_team(thread);
         let chunk = self.regions.next_chunk(region, member);
-        fitting_chunk(self.tasks.asked_count(task), chunk)
+        let (code, control) = self.tasks.code_of(task);
+        fitting_chunk(control.asked_count(code), chunk)
     }
 
     /// The thread takes the next section of the construct that its current task is in.
@@ -159,7 +160,8 @@ impl Board {
     {
         let (region, member) = self.place_in_team(thread);
         let section = self.regions.next_section(region, member);
-        fitting_section(self.tasks.asked_sections(task), section)
+        let (code, control) = self.tasks.code_of(task);
+        fitting_section(control.asked_sections(code), section)
     }
 
     /// The share of the construct's work that the answer gives, if it gives one.
