@@ -63,9 +63,12 @@ impl Board {
             } => self.synchronise(thread, codeptr, kind, stage),
             Point::MutexAcquire { wait_id, kind, .. } => self.ask_for(thread, wait_id, kind),
             Point::MutexAcquired { wait_id, .. } => self.acquire(thread, wait_id),
-            Point::MutexReleased { wait_id, .. } => self.release(thread, wait_id),
-            Point::LockInit { wait_id, .. } => self.init_lock(wait_id),
-            Point::LockDestroy { wait_id, .. } => self.destroy_lock(wait_id),
+            Point::MutexReleased { wait_id, .. } => {
+                let task = self.current(thread);
+                self.locks.give(wait_id, task).map_err(trap)
+            }
+            Point::LockInit { wait_id, .. } => self.locks.init(wait_id).map_err(trap),
+            Point::LockDestroy { wait_id, .. } => self.locks.destroy(wait_id).map_err(trap),
             _ => Ok(()),
         }
     }
@@ -149,7 +152,8 @@ impl Board {
         match self.meeting_fault(thread, what) {
             Some(halt) => Err(halt),
             None => {
-                self.meet(thread, what);
+                let (region, member) = self.place_in_team(thread);
+                self.regions.meet(region, member, what);
                 Ok(())
             }
         }
@@ -261,41 +265,6 @@ impl Board {
         let task = self.current(thread);
         self.locks.take(wait_id, task);
         Ok(())
-    }
-
-    /// It is given back.
-    fn release(&mut self, thread: u8, wait_id: u32) -> Result<(), Halt>
-        ensures effect { let W = self.old.world in IsEffect
-            (effects.lock_fault (answers.answer_to_give W.locks.locks wait_id (current W thread)))
-            (changes.owned_by W wait_id None)
-            result W self.new.world }
-        ensures kept { KeepsPassing self.old self.new }
-    {
-        let task = self.current(thread);
-        self.locks.give(wait_id, task).map_err(trap)
-    }
-
-    /// A lock is initialised.
-    fn init_lock(&mut self, wait_id: u32) -> Result<(), Halt>
-        requires { 0 < self.old.room.locks }
-        ensures effect { let W = self.old.world in IsEffect
-            (effects.lock_fault (answers.answer_to_init W.locks.locks wait_id))
-            (changes.with_initialised_lock W wait_id)
-            result W self.new.world }
-        ensures kept { KeepsPassing self.old self.new }
-    {
-        self.locks.init(wait_id).map_err(trap)
-    }
-
-    /// A lock is destroyed.
-    fn destroy_lock(&mut self, wait_id: u32) -> Result<(), Halt>
-        ensures effect { let W = self.old.world in IsEffect
-            (effects.lock_fault (answers.answer_to_destroy W.locks.locks wait_id))
-            (changes.without_lock W wait_id)
-            result W self.new.world }
-        ensures kept { KeepsPassing self.old self.new }
-    {
-        self.locks.destroy(wait_id).map_err(trap)
     }
 
     /// The limit that the event meets, if it meets one.
