@@ -69,7 +69,11 @@ impl Board {
         ensures { result ≡ gates.arrival_without_task self.now.world thread }
     {
         if thread == 0 {
-            return arrival_around(self.pool.task(INITIAL_TASK).condition);
+            return match self.pool.task(INITIAL_TASK).condition {
+                Condition::Made => Arrival::RuntimeEvent(Event::InitialTaskBegin),
+                Condition::Ready | Condition::Started => Arrival::Waits,
+                Condition::Finished => Arrival::RuntimeEvent(Event::ThreadEnd),
+            };
         }
         if self.main_returned() && self.pool.unfinished(IMPLICIT_REGION) == 0 {
             Arrival::RuntimeEvent(Event::ThreadEnd)
@@ -276,17 +280,6 @@ fn comes_if(may: bool) -> Arrival
         Arrival::CodeEvent
     } else {
         Arrival::Waits
-    }
-}
-
-/// What thread 0 comes to without a task, where the initial task has come so far.
-fn arrival_around(condition: Condition) -> Arrival
-    ensures { result ≡ gates.arrival_around condition }
-{
-    match condition {
-        Condition::Made => Arrival::RuntimeEvent(Event::InitialTaskBegin),
-        Condition::Ready | Condition::Started => Arrival::Waits,
-        Condition::Finished => Arrival::RuntimeEvent(Event::ThreadEnd),
     }
 }
 

@@ -50,7 +50,10 @@ impl Board {
         match point {
             Point::ParallelBegin { requested, .. } => self.fork(thread, requested),
             Point::ParallelEnd { .. } => {
-                self.end_fork(thread);
+                let region = self.tasks.forked(self.current(thread));
+                let mut head = *self.regions.head(region);
+                head.ended = true;
+                self.regions.set_head(region, head);
                 Ok(())
             }
             Point::TaskCreate { undeferred, .. } => self.create(thread, undeferred),
@@ -62,7 +65,12 @@ impl Board {
                 stage,
             } => self.synchronise(thread, codeptr, kind, stage),
             Point::MutexAcquire { wait_id, kind, .. } => self.ask_for(thread, wait_id, kind),
-            Point::MutexAcquired { wait_id, .. } => self.acquire(thread, wait_id),
+            Point::MutexAcquired { wait_id, .. } => {
+                self.may_acquire(wait_id)?;
+                let task = self.current(thread);
+                self.locks.take(wait_id, task);
+                Ok(())
+            }
             Point::MutexReleased { wait_id, .. } => {
                 let task = self.current(thread);
                 self.locks.give(wait_id, task).map_err(trap)
@@ -105,17 +113,6 @@ impl Board {
         } else {
             1
         }
-    }
-
-    /// The region is over that the thread's task has forked.
-    fn end_fork(&mut self, thread: u8)
-        ensures { let W = self.old.world in
-            self.new ≡ record self.old { world = changes.region_over W (task_at W (current W thread)).forked } }
-    {
-        let region = self.tasks.forked(self.current(thread));
-        let mut head = *self.regions.head(region);
-        head.ended = true;
-        self.regions.set_head(region, head);
     }
 
     /// An explicit task is made.
@@ -253,20 +250,6 @@ impl Board {
         }
     }
 
-    /// It comes to be owned.
-    fn acquire(&mut self, thread: u8, wait_id: u32) -> Result<(), Halt>
-        ensures effect { let W = self.old.world in IsEffect
-            (effects.lock_fault (answers.answer_to_may_take W.locks.locks wait_id))
-            (changes.owned_by W wait_id (Some (current W thread)))
-            result W self.new.world }
-        ensures kept { KeepsPassing self.old self.new }
-    {
-        self.may_acquire(wait_id)?;
-        let task = self.current(thread);
-        self.locks.take(wait_id, task);
-        Ok(())
-    }
-
     /// The limit that the event meets, if it meets one.
     #[tactic(auto, unfolding(omp_model::specs::EventEffects::fault_of))]
     pub(super) fn limit_met(&self, thread: u8, event: Event) -> Option<Halt>
@@ -307,7 +290,11 @@ impl Board {
     {
         match event {
             Event::ThreadBegin => self.set_stage(thread, ThreadStage::Begun),
-            Event::InitialTaskBegin => self.begin_initial(thread),
+            Event::InitialTaskBegin => {
+                self.take_up(thread, INITIAL_TASK);
+                self.start(INITIAL_TASK);
+                self.begin_member(IMPLICIT_REGION, 0, INITIAL_TASK);
+            }
             Event::InitialTaskEnd => {
                 self.pop(thread);
                 self.finish(INITIAL_TASK);
@@ -331,17 +318,6 @@ impl Board {
         }
     }
 
-    /// The initial task begins.
-    #[tactic(auto, unfolding(omp_model::specs::EventEffects::effect_of))]
-    fn begin_initial(&mut self, thread: u8)
-        requires { length (thread_at self.old.world thread).stack < STACK_LIMIT }
-        ensures { self.new ≡ record self.old { world = effect_of self.old.world thread event.InitialTaskBegin } }
-    {
-        self.take_up(thread, INITIAL_TASK);
-        self.start(INITIAL_TASK);
-        self.begin_member(IMPLICIT_REGION, 0, INITIAL_TASK);
-    }
-
     /// A member's implicit task is made and begins.
     #[tactic(auto, unfolding(omp_model::specs::EventEffects::effect_of))]
     fn join(&mut self, thread: u8, region: u32, task: u32)
@@ -357,7 +333,8 @@ impl Board {
     {
         let parent = self.regions.head(region).task;
         let member = self.member_index(thread, region);
-        self.add_member(parent, region);
+        let _ = self.pool.add(parent, region, TaskKind::Implicit);
+        self.tasks.add_member(parent);
         self.start(task);
         self.take_up(thread, task);
         self.begin_member(region, member, task);

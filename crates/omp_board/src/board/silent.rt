@@ -161,7 +161,8 @@ impl Board {
         let (region, member) = self.place_in_team(thread);
         let section = self.regions.next_section(region, member);
         let (code, control) = self.tasks.code_of(task);
-        fitting_section(control.asked_sections(code), section)
+        let count = control.asked_sections(code);
+        section.filter(|section| *section < count)
     }
 
     /// The share of the construct's work that the answer gives, if it gives one.
@@ -202,11 +203,4 @@ fn fitting_chunk(count: u64, chunk: Option<(u64, u64)>) -> Option<(u64, u64)>
         Some(end) if length > 0 && end <= count => Some((start, length)),
         _ => None,
     }
-}
-
-/// The section, if it is one of so many.
-fn fitting_section(count: u32, section: Option<u32>) -> Option<u32>
-    ensures { result ≡ silence.fitting_section count section }
-{
-    section.filter(|section| *section < count)
 }
