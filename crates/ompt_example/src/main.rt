@@ -17,51 +17,42 @@ mod task_starts;
 
 use gathered::Gathered;
 use ompt_cli::{End, own_words, top};
-use run_edges::{Sink, Source, StdSink, StdSource, write_all};
+use run_edges::{Sink, StdSink, StdSource, write_all};
 use std::alloc::{AllocError, Global};
 use std::process::ExitCode;
-use std::rt::Env;
 use std::sync::Wait;
-use std::thread::Threads;
 use tool_api::GuestTool;
 
 fn main(rt: HostRuntime) -> ExitCode {
-    let mut out = StdSink::new(rt.stdout());
+    let alloc = rt.alloc();
     let mut err = StdSink::new(rt.stderr());
-    match run(rt, &mut StdSource::new(rt.stdin()), &mut out, &mut err) {
-        Ok(status) => ExitCode::from(status),
-        Err(end) => end.exit(&mut err),
+    let Ok(gathered) = Gathered::new(alloc) else {
+        return End::Memory.exit(&mut err);
+    };
+    let Ok(pairs) = gathered.guests(alloc, rt) else {
+        return End::Memory.exit(&mut err);
+    };
+    let mut guests: Vec<Box<dyn GuestTool>> = Vec::new(alloc);
+    for pair in pairs {
+        let Ok(guest) = Box::new(alloc, pair) else {
+            return End::Memory.exit(&mut err);
+        };
+        let Ok(()) = guests.push(guest) else {
+            return End::Memory.exit(&mut err);
+        };
     }
-}
-
-/// Does what the words of the program say, writes the reports behind what was printed, and answers the status. An error is the end that the
-/// program comes to instead.
-fn run<
-    R: Threads + Wait + Sync + Send + Copy + Env + AllocGlobal + 'static,
-    S: Source,
-    O: Sink,
-    E: Sink,
->(rt: R, source: &mut S, out: &mut O, err: &mut E) -> Result<u8, End> {
-    let gathered = Gathered::new(rt.alloc()).map_err(|_| End::Memory)?;
-    let guests = guests(rt, &gathered).map_err(|_| End::Memory)?;
-    let words = own_words(&rt).map_err(|_| End::Memory)?;
-    let top = top(&rt, rt.alloc(), &words, source, out, err, guests);
+    let Ok(words) = own_words(&rt) else {
+        return End::Memory.exit(&mut err);
+    };
+    let mut source = StdSource::new(rt.stdin());
+    let mut out = StdSink::new(rt.stdout());
+    let top = top(&rt, alloc, &words, &mut source, &mut out, &mut err, guests);
     if top.has_printed() {
-        report(&rt, rt.alloc(), &gathered, out)?;
+        if let Err(end) = report(&rt, alloc, &gathered, &mut out) {
+            return end.exit(&mut err);
+        }
     }
-    Ok(top.status)
-}
-
-/// A guest for each thread that there may be: both tools in one.
-fn guests<R: Wait + Send + Copy + AllocGlobal + 'static>(
-    rt: R,
-    gathered: &Gathered,
-) -> Result<Vec<Box<dyn GuestTool>>, AllocError> {
-    let mut guests: Vec<Box<dyn GuestTool>> = Vec::new(rt.alloc());
-    for pair in gathered.guests(rt.alloc(), rt)? {
-        guests.push(Box::new(rt.alloc(), pair)?)?;
-    }
-    Ok(guests)
+    ExitCode::from(top.status)
 }
 
 /// Writes the reports of both tools, the first one's first.

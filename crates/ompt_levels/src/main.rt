@@ -28,55 +28,46 @@ mod tests;
 use inquirer::Inquirer;
 use lines::Lines;
 use ompt_cli::{End, own_words, top};
-use run_edges::{Sink, Source, StdSink, StdSource, write_all};
-use std::alloc::{AllocError, Global};
+use run_edges::{Sink, StdSink, StdSource, write_all};
+use std::alloc::Global;
 use std::process::ExitCode;
-use std::rt::Env;
-use std::sync::{Arc, Mutex, Wait};
-use std::thread::Threads;
+use std::sync::{Arc, Mutex};
 use storing::Storing;
 use tool_api::GuestTool;
 
 fn main(rt: HostRuntime) -> ExitCode {
-    let mut out = StdSink::new(rt.stdout());
+    let alloc = rt.alloc();
     let mut err = StdSink::new(rt.stderr());
-    match run(rt, &mut StdSource::new(rt.stdin()), &mut out, &mut err) {
-        Ok(status) => ExitCode::from(status),
-        Err(end) => end.exit(&mut err),
-    }
-}
-
-/// Does what the words of the program say, writes the lines behind what was printed, and answers the status. An error is the end that the
-/// program comes to instead.
-fn run<
-    R: Threads + Wait + Sync + Send + Copy + Env + AllocGlobal + 'static,
-    S: Source,
-    O: Sink,
-    E: Sink,
->(rt: R, source: &mut S, out: &mut O, err: &mut E) -> Result<u8, End> {
-    let mut words = own_words(&rt).map_err(|_| End::Memory)?;
+    let Ok(mut words) = own_words(&rt) else {
+        return End::Memory.exit(&mut err);
+    };
     let storing = Storing::take(&mut words);
-    let lines = Arc::new(rt.alloc(), Mutex::new(Lines::new(rt.alloc()))).map_err(|_| End::Memory)?;
-    let guests = inquirers(rt, &lines, storing).map_err(|_| End::Memory)?;
-    let top = top(&rt, rt.alloc(), &words, source, out, err, guests);
-    if top.has_printed() {
-        write_lines(rt.alloc(), &lines.lock(&rt), out)?;
-    }
-    Ok(top.status)
-}
-
-/// A guest for each thread that there may be. They add to the same lines.
-fn inquirers<R: Wait + Send + Copy + AllocGlobal + 'static>(
-    rt: R,
-    lines: &Arc<Mutex<Lines>>,
-    storing: Storing,
-) -> Result<Vec<Box<dyn GuestTool>>, AllocError> {
-    let mut guests: Vec<Box<dyn GuestTool>> = Vec::new(rt.alloc());
+    let Ok(lines) = Arc::new(alloc, Mutex::new(Lines::new(alloc))) else {
+        return End::Memory.exit(&mut err);
+    };
+    // A guest for each thread that there may be.
+    let mut guests: Vec<Box<dyn GuestTool>> = Vec::new(alloc);
     for _thread in 0..16 {
-        let inquirer = Inquirer::new(rt, rt.alloc(), Arc::try_clone(lines)?, storing);
-        guests.push(Box::new(rt.alloc(), inquirer)?)?;
+        let Ok(shared) = Arc::try_clone(&lines) else {
+            return End::Memory.exit(&mut err);
+        };
+        let inquirer = Inquirer::new(rt, alloc, shared, storing);
+        let Ok(guest) = Box::new(alloc, inquirer) else {
+            return End::Memory.exit(&mut err);
+        };
+        let Ok(()) = guests.push(guest) else {
+            return End::Memory.exit(&mut err);
+        };
     }
-    Ok(guests)
+    let mut source = StdSource::new(rt.stdin());
+    let mut out = StdSink::new(rt.stdout());
+    let top = top(&rt, alloc, &words, &mut source, &mut out, &mut err, guests);
+    if top.has_printed() {
+        if let Err(end) = write_lines(alloc, &lines.lock(&rt), &mut out) {
+            return end.exit(&mut err);
+        }
+    }
+    ExitCode::from(top.status)
 }
 
 /// Writes all lines.
