@@ -3,11 +3,10 @@
 ghost use Rattle.std.specs.Prelude.{◌≡◌, ◌<◌, ◌+◌, ◌∷◌, [], length, IfNone, IfSome};
 ghost use Rattle.c_syntax.specs.language.Tree.{kind_of};
 ghost use Rattle.c_syntax.specs.language.Numbered.{tree_at};
-ghost use Rattle.c_steps.specs.Items.{declarators_from, item_at};
+ghost use Rattle.c_steps.specs.Items.{declarators_from};
 ghost use Rattle.c_steps.specs.Looking.{Looks};
-ghost use Rattle.c_steps.specs.Ready.{IsFrame, IsItem};
+ghost use Rattle.c_steps.specs.Ready.{IsFrame};
 ghost use Rattle.c_steps.specs.Trying.{Shows, item_of};
-ghost use Rattle.c_model.specs.Task.{item_of_part};
 ghost use Rattle.c_steps.specs.declared.frame.Frame.TheVariants.{Parts as parts_frame, Combining as reductions_frame};
 
 use crate::code::Code;
@@ -134,22 +133,12 @@ fn shown_part(code: &Code, block: u32, place: u32, at: u32, names: usize) -> Sho
             at: 0,
             names,
         }),
-        Some(node) => Shown::Next(plain_part(code, node)),
-    }
-}
-
-/// A part of a block.
-#[inline(always)]
-fn plain_part(code: &Code, node: u32) -> Plain
-    requires { node < length code.now.trees }
-    ensures item { item_at code.now (item_of result) ≡ item_of_part (tree_at code.now.trees node) }
-    ensures is_item { IsItem code.now (item_of result) }
-{
-    match code.kind(Some(node)) {
-        NodeKind::Name | NodeKind::LocalVar | NodeKind::LocalArray | NodeKind::LocalSet => {
-            Plain::Declare(node)
-        }
-        _ => Plain::Start(node),
+        Some(node) => match code.kind(Some(node)) {
+            NodeKind::Name | NodeKind::LocalVar | NodeKind::LocalArray | NodeKind::LocalSet => {
+                Shown::Next(Plain::Declare(node))
+            }
+            _ => Shown::Next(Plain::Start(node)),
+        },
     }
 }
 

@@ -2,12 +2,12 @@
 
 ghost use Rattle.std.specs.Prelude.{◌≡◌};
 ghost use Rattle.c_model.specs.Constructs.{reduction_result};
-ghost use Rattle.c_model.specs.Value.{truth, quotient, remainder, binary_result, unary_result, deciding_value};
+ghost use Rattle.c_model.specs.Value.{truth, binary_result, unary_result, deciding_value};
 
 use c_model::{OVERFLOW, ZERO_DIVIDE};
 use c_syntax::{BinaryOp, ReductionOp, UnaryOp};
 
-/// What an operator makes of two numbers, or its trap.
+/// What an operator makes of two numbers, or its trap. A division is toward 0.
 #[inline(always)]
 pub(crate) fn binary_result(operator: BinaryOp, left: i32, right: i32) -> Result<i32, u8>
     ensures { result ≡ binary_result operator left right }
@@ -22,8 +22,18 @@ pub(crate) fn binary_result(operator: BinaryOp, left: i32, right: i32) -> Result
         BinaryOp::Add => left.checked_add(right).ok_or(OVERFLOW),
         BinaryOp::Subtract => left.checked_sub(right).ok_or(OVERFLOW),
         BinaryOp::Multiply => left.checked_mul(right).ok_or(OVERFLOW),
-        BinaryOp::Divide => quotient(left, right),
-        BinaryOp::Remainder => remainder(left, right),
+        BinaryOp::Divide => {
+            if right == 0 {
+                return Err(ZERO_DIVIDE);
+            }
+            left.checked_div(right).ok_or(OVERFLOW)
+        }
+        BinaryOp::Remainder => {
+            if right == 0 {
+                return Err(ZERO_DIVIDE);
+            }
+            left.checked_rem(right).ok_or(OVERFLOW)
+        }
         BinaryOp::Or | BinaryOp::And => Ok(truth(right != 0)),
     }
 }
@@ -68,26 +78,4 @@ fn truth(holds: bool) -> i32
     ensures { result ≡ truth holds }
 {
     if holds { 1 } else { 0 }
-}
-
-/// Toward 0.
-#[inline(always)]
-fn quotient(left: i32, right: i32) -> Result<i32, u8>
-    ensures { result ≡ quotient left right }
-{
-    if right == 0 {
-        return Err(ZERO_DIVIDE);
-    }
-    left.checked_div(right).ok_or(OVERFLOW)
-}
-
-/// What a division toward 0 leaves.
-#[inline(always)]
-fn remainder(left: i32, right: i32) -> Result<i32, u8>
-    ensures { result ≡ remainder left right }
-{
-    if right == 0 {
-        return Err(ZERO_DIVIDE);
-    }
-    left.checked_rem(right).ok_or(OVERFLOW)
 }

@@ -2,12 +2,10 @@
 
 ghost use Rattle.std.specs.Prelude.{◌≡◌, ◌∷◌, [], reverse, slice_get, IfSome, MatchOption};
 ghost use Rattle.std.specs.Option.{option_map};
-ghost use Rattle.c_syntax.specs.language.Tree.{kind_of};
 ghost use Rattle.c_model.specs.Step as steps;
 ghost use Rattle.c_steps.specs.ControlView.{task_at};
 ghost use Rattle.c_steps.specs.Items.{item_at, todo_at};
 ghost use Rattle.c_steps.specs.OfProgram.{IsMadeFor};
-ghost use Rattle.c_steps.specs.Nodes.{IsPart, part_at};
 ghost use Rattle.c_steps.specs.Ready.{AreFrames, IsItem};
 ghost use Rattle.c_steps.specs.FrontFrame.{above};
 
@@ -82,7 +80,12 @@ pub(super) fn is_event(code: &Code, item: Item) -> bool
     ensures { result ≡ steps.is_event (item_at code.now item) }
 {
     match item {
-        Item::Start(part) => is_event_statement(code, part),
+        Item::Start(part) => match code.kind(part) {
+            NodeKind::SetCall => is_test(code.kind(code.child(part, 1))),
+            NodeKind::Called | NodeKind::Return => is_test(code.kind(code.child(part, 0))),
+            NodeKind::LockCall(_) | NodeKind::Standalone(_) | NodeKind::Construct(_) => true,
+            _ => false,
+        },
         Item::Initialise { node, .. } => is_test(code.kind(code.child(Some(node), 0))),
         Item::Inside(node) => matches!(
             code.kind(Some(node)),
@@ -94,20 +97,6 @@ pub(super) fn is_event(code: &Code, item: Item) -> bool
         | Item::Sync { .. }
         | Item::Acquire { .. }
         | Item::Release { .. } => true,
-        _ => false,
-    }
-}
-
-/// Whether a statement is an event by its form.
-#[inline(always)]
-fn is_event_statement(code: &Code, part: Option<u32>) -> bool
-    requires { IsPart code.now.trees part }
-    ensures { result ≡ steps.is_event_statement (kind_of (part_at code.now.trees part)) (part_at code.now.trees part) }
-{
-    match code.kind(part) {
-        NodeKind::SetCall => is_test(code.kind(code.child(part, 1))),
-        NodeKind::Called | NodeKind::Return => is_test(code.kind(code.child(part, 0))),
-        NodeKind::LockCall(_) | NodeKind::Standalone(_) | NodeKind::Construct(_) => true,
         _ => false,
     }
 }
