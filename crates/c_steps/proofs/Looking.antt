@@ -1,5 +1,5 @@
 -- What a frame on top says of what stands next.
-use Rattle.std.proofs.Common.{◌≡◌, ℕ, ◌+◌, ◌<◌, List, [], ◌∷◌, ◌++◌, length, refl, ap, arith}
+use Rattle.std.proofs.Common.{◌≡◌, ℕ, ◌+◌, ◌<◌, List, [], ◌∷◌, ◌++◌, length, refl, ap, subst, arith}
 use Rattle.c_syntax.specs.declared.node.NodeKind.{NodeKind}
 use Rattle.c_syntax.specs.declared.node.NodeKind.TheVariants as node
 use Rattle.c_syntax.specs.language.Tree.{Tree, kind_of}
@@ -20,7 +20,9 @@ use Rattle.c_steps.specs.declared.listed.ListedPlace.{ListedPlace}
 use Rattle.c_steps.specs.declared.listed.Copying.TheVariants as copying
 use Rattle.c_steps.specs.declared.listed.FoundName.{FoundName}
 use Rattle.c_steps.specs.ListedNames.{copying_of, listed_from, listed_of}
+use Rattle.c_steps.specs.declared.look.Plain.{Plain}
 use Rattle.c_steps.specs.Looking.{IsInPlaceOf, IsOver, ShowsItem, weight, weights}
+use Rattle.c_steps.specs.Trying.{item_of}
 use Rattle.std.proofs.lemmas.List.Elements.{All-cons}
 
 -- a part of a block has all of its declarators left at first
@@ -44,6 +46,10 @@ shows_one program it is = record {
   front = λ frames are. record { is_item = is; can_begin = tt; todo = refl; calls = λ names. refl; are_begun = are };
   less = λ frames. omega arith;
 }
+
+-- .. where it is plain
+pub shows_plain : (program : TreeView) (it : Item) (found : Plain) → IsItem program it → it ≡ item_of found → ShowsItem program (frame.One it) (item_of found)
+shows_plain program it found is same = subst (ShowsItem program (frame.One it)) same (shows_one program it is)
 
 module _ (program : TreeView) (block place at names : ℕ) where
   abbrev here : Frame

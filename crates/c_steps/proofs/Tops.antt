@@ -6,7 +6,7 @@ use Rattle.c_steps.specs.declared.frame.Frame.TheVariants as frame
 use Rattle.c_steps.specs.Items.{begun}
 use Rattle.c_steps.specs.Ready.{CanBegin}
 use Rattle.c_steps.specs.Rooms.{Stacked}
-use Rattle.c_steps.specs.Trying.{HasPart, HasPartOnTop, IsBegun, IsBegunFrame, next_on_top, next_part}
+use Rattle.c_steps.specs.Trying.{IsBegun, IsBegunFrame}
 
 module _ {X : Type 0} (items : List X) (place : ℕ) (last : 0 < length items) (is : place ≡ length items - 1) where
   abbrev below : List X
@@ -49,12 +49,6 @@ module _ (items : List Frame) (place : ℕ) (it : Frame) (last : 0 < length item
   gone_top : (other : Frame) → IsBegunFrame it false other → begun (reverse items) ≡ drop 1 (reverse items)
   gone_top other ends = ap begun whole ∙ ends.1 rest ∙ ap (drop 1) (sym whole)
 
-  pub part_top : HasPartOnTop (reverse items) → HasPart it
-  part_top has = subst HasPartOnTop whole has
-
-  next_top : (other : Frame) → other ≡ next_part it → reverse (slice_set items place other) ≡ next_on_top (reverse items)
-  next_top other next = top_set items place last is other ∙ ap (λ (it : Frame). it ∷ rest) next ∙ ap next_on_top (sym whole)
-
   -- the whole stack
   pub begun_stack : (old new : Stacked Frame) (other : Frame) (stays : Bool) → old.frames ≡ reverse items → new ≡ record old { frames = reverse (slice_set items place other) } → IsBegunFrame it stays other → IsBegun old stays new
   begun_stack old new other true same becomes begins =
@@ -63,7 +57,3 @@ module _ (items : List Frame) (place : ℕ) (it : Frame) (last : 0 < length item
     becomes ∙ ap (λ (frames : List Frame). record old { frames = frames }) (ends_top other ends ∙ sym same),
     ap begun same ∙ gone_top other ends ∙ ap (drop 1) (sym same),
   )
-
-  pub next_stack : (old new : Stacked Frame) (other : Frame) → old.frames ≡ reverse items → new ≡ record old { frames = reverse (slice_set items place other) } → other ≡ next_part it → new ≡ record old { frames = next_on_top old.frames }
-  next_stack old new other same becomes next =
-      becomes ∙ ap (λ (frames : List Frame). record old { frames = frames }) (next_top other next ∙ ap next_on_top (sym same))

@@ -15,8 +15,8 @@ use Rattle.c_model.specs.Upcoming.{upcoming_among, upcoming_item}
 use Rattle.c_model.specs.Width.{IsWithin}
 use Rattle.c_model.proofs.Standing.{fits-item}
 use Rattle.c_steps.specs.declared.next.Next.TheVariants as next
-use Rattle.c_steps.specs.declared.plain.Plain.{Plain}
-use Rattle.c_steps.specs.declared.plain.Plain.TheVariants as plain
+use Rattle.c_steps.specs.declared.look.Plain.{Plain}
+use Rattle.c_steps.specs.declared.look.Plain.TheVariants as plain
 use Rattle.c_steps.specs.ControlView.{ControlView, here_at, moment_at, task_at}
 use Rattle.c_steps.specs.Items.{item_at}
 use Rattle.c_steps.specs.OfProgram.{IsMadeFor}

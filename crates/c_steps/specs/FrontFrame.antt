@@ -1,25 +1,13 @@
--- What a frame comes to, when what the task goes past is left out.
-use Rattle.std.specs.Prelude.{◌≡◌, false, List, [], ◌∷◌, slice_get, Option, Some, None}
+-- Frames that are looked through without a change, and what an item tells by itself.
+use Rattle.std.specs.Prelude.{◌≡◌, false, List, ◌∷◌, Option, Some, None}
 use Rattle.c_syntax.specs.language.Numbered.{TreeView}
 use Rattle.c_model.specs.declared.view.View.{View}
-use Rattle.c_model.specs.Step.{skips_masked, items_from_next}
+use Rattle.c_model.specs.Step.{skips_masked}
 use Rattle.c_model.specs.Upcoming.{upcoming_item}
 use Rattle.c_model.specs.declared.upcoming.Upcoming.{Upcoming}
 use Rattle.c_steps.specs.declared.frame.Frame.{Frame}
 use Rattle.c_steps.specs.declared.item.Item.{Item}
-use Rattle.c_steps.specs.declared.control.standing.Front.{Front}
-use Rattle.c_steps.specs.declared.control.standing.Front.TheVariants as front
-use Rattle.c_steps.specs.Items.{begun, item_at, todo_at}
-use Rattle.c_steps.specs.Ready.{AreFrames, IsItem}
-
-abbrev pub Fronts : TreeView → View → Frame → Front → Type 0
-Fronts program view it (front.Found found) =
-    IsItem program found
-    × ((frames : List Frame) → AreFrames program frames → slice_get (items_from_next view (todo_at program (it ∷ frames))) 0 ≡ Some (item_at program found))
-Fronts program view it front.Over =
-    (frames : List Frame) → AreFrames program frames → items_from_next view (todo_at program (it ∷ frames)) ≡ items_from_next view (todo_at program frames)
-Fronts program view it front.Nothing =
-    (frames : List Frame) → AreFrames program frames → items_from_next view (todo_at program (it ∷ frames)) ≡ []
+use Rattle.c_steps.specs.Items.{begun, item_at}
 
 -- a frame, if there is one, above others
 abbrev pub above : Option Frame → List Frame → List Frame

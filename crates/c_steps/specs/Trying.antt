@@ -1,5 +1,5 @@
 -- A silent step that is tried: it was made, or nothing was done.
-use Rattle.std.specs.Prelude.{◌≡◌, ◌+◌, ◌<◌, Bool, true, false, List, [], ◌∷◌, ℕ, zero, suc, Some, None, drop}
+use Rattle.std.specs.Prelude.{◌≡◌, Bool, true, false, ℕ, zero, suc, Some, None, drop}
 use Rattle.c_syntax.specs.language.Numbered.{TreeView}
 use Rattle.c_model.specs.declared.view.View.{View}
 use Rattle.c_model.specs.declared.upcoming.Upcoming.TheVariants as upcoming
@@ -8,13 +8,12 @@ use Rattle.c_model.specs.Task.{Outcome, Store}
 use Rattle.c_model.specs.Task.Outcome.{StepsTo}
 use Rattle.c_model.specs.Upcoming.{upcoming_of}
 use Rattle.c_steps.specs.declared.frame.Frame.{Frame}
-use Rattle.c_steps.specs.declared.frame.Frame.TheVariants as frame
 use Rattle.c_steps.specs.declared.item.Item.{Item}
 use Rattle.c_steps.specs.declared.item.Item.TheVariants as item
-use Rattle.c_steps.specs.declared.plain.Part.{Part}
-use Rattle.c_steps.specs.declared.plain.Part.TheVariants as part
-use Rattle.c_steps.specs.declared.plain.Plain.{Plain}
-use Rattle.c_steps.specs.declared.plain.Plain.TheVariants as plain
+use Rattle.c_steps.specs.declared.look.Plain.{Plain}
+use Rattle.c_steps.specs.declared.look.Plain.TheVariants as plain
+use Rattle.c_steps.specs.declared.look.Shown.{Shown}
+use Rattle.c_steps.specs.declared.look.Shown.TheVariants as shown
 use Rattle.c_steps.specs.ControlView.{ControlView, moment_at, task_at}
 use Rattle.c_steps.specs.Items.{begun}
 use Rattle.c_steps.specs.Looking.{IsInPlaceOf, ShowsItem}
@@ -66,29 +65,16 @@ abbrev pub IsBegun : Stacked Frame → Bool → Stacked Frame → Type 0
 IsBegun old true new = new ≡ record old { frames = begun old.frames }
 IsBegun old false new = (new ≡ old) × (begun old.frames ≡ drop 1 old.frames)
 
--- a frame of parts with the part past that stands next
-abbrev pub next_part : Frame → Frame
-next_part (frame.Parts block place at names) = frame.Parts block (place + 1) 0 names
-next_part other = other
+-- what a frame says of what stands next, where that is plain
+abbrev pub Shows : TreeView → Frame → Shown → Type 0
+Shows program it (shown.Next found) = ShowsItem program it (item_of found)
+Shows program it (shown.Instead other) = IsInPlaceOf program it other
 
-abbrev pub HasPart : Frame → Type 0
-HasPart (frame.Parts block place at names) = place < 4294967295
-HasPart other = ⊥
-
--- .. on top of others
-abbrev pub next_on_top : List Frame → List Frame
-next_on_top [] = []
-next_on_top (it ∷ frames) = next_part it ∷ frames
-
-abbrev pub HasPartOnTop : List Frame → Type 0
-HasPartOnTop [] = ⊥
-HasPartOnTop (it ∷ frames) = HasPart it
-
--- what the parts of a block say that are left, behind which so many names stay
-abbrev pub Shows : TreeView → Frame → ℕ → Part → Type 0
-Shows program it names (part.Next found) = ShowsItem program it (item_of found)
-Shows program it names part.Past = HasPart it × IsInPlaceOf program it (next_part it)
-Shows program it names part.Over = IsInPlaceOf program it (frame.One (item.Leave names))
+-- the same task, by other frames
+pub record IsSameBy (program : TreeView) (old new : ControlView) : Type 0 where
+  pub frames : AreFrames program new.frames
+  pub rest : new ≡ record old { frames = new.frames }
+  pub task : task_at program new ≡ task_at program old
 
 -- a step was made that comes to this
 pub record ComesTo (program : TreeView) (outcome : Outcome) (old : ControlView) (new : ControlView) (after : Store) : Type 0 where

@@ -6,6 +6,7 @@ ghost use Rattle.c_model.specs.Cells.{cell_at};
 ghost use Rattle.c_model.specs.declared.limits.TheConstants.{CELL_LIMIT};
 
 use crate::code::Code;
+use crate::evaluate::number_in;
 use c_model::{CELL_LIMIT, TEXT_LIMIT};
 use std::alloc::{AllocError, Global};
 use std::marker::Model;
@@ -37,13 +38,7 @@ impl Cells {
     pub fn new(alloc: Global, code: &Code) -> Result<Cells, AllocError>
         ensures { IfOk result (λ all. all ≡ record { cells = (file_bound code.now).cells; text = [] }) }
     {
-        Cells::with(alloc, code.file_numbers())
-    }
-
-    /// The cells with these numbers, and nothing printed.
-    fn with(alloc: Global, numbers: &[i32]) -> Result<Cells, AllocError>
-        ensures { IfOk result (λ all. all ≡ record { cells = numbers.now; text = [] }) }
-    {
+        let numbers = code.file_numbers();
         if numbers.len() > CELL_LIMIT {
             return Err(AllocError);
         }
@@ -89,10 +84,7 @@ impl Cells {
     pub(crate) fn number(&self, cell: usize) -> i32
         ensures { result ≡ cell_at self.now.cells cell }
     {
-        match self.cells.get(cell) {
-            Some(number) => *number,
-            None => 0,
-        }
+        number_in(&self.cells, cell)
     }
 
     /// Whether there may be so many more cells.

@@ -2,7 +2,7 @@
 
 ghost use Rattle.std.specs.Prelude.{◌≡◌, ◌<◌, length, slice_index_or, IfSome};
 ghost use Rattle.std.specs.Option.{option_map};
-ghost use Rattle.c_syntax.specs.language.Tree.{kind_of, nothing};
+ghost use Rattle.c_syntax.specs.language.Tree.{nothing};
 ghost use Rattle.c_syntax.specs.language.Numbered.{tree_at};
 ghost use Rattle.c_check.specs.Statements as statements;
 ghost use Rattle.c_model.specs.Clauses as clauses;
@@ -183,14 +183,19 @@ pub(crate) fn section_count(construct: Node) -> u32
     count
 }
 
-/// What a section executes, counted from 0. A part that is missing past the last.
+/// What a section executes, counted from 0: the first one may be a statement without a `section` before it. A part that is missing past the
+/// last.
 #[tactic(auto, using(crate::proofs::Sections::nth_section))]
 pub(crate) fn section(construct: Node, number: u32) -> Option<u32>
     ensures statement { part_at construct.entry.code.now.trees result ≡
         slice_index_or (clauses.sections_of (tree_of construct.entry)) number nothing }
     ensures there { IsPart construct.entry.code.now.trees result }
 {
-    section_statement(construct.code, nth_statement(construct, number))
+    let (code, part) = (construct.code, nth_statement(construct, number));
+    match code.kind(part) {
+        NodeKind::Section => code.child(part, 0),
+        _ => part,
+    }
 }
 
 /// A part of a construct behind its clauses, counted from 0. A part that is missing past the last.
@@ -226,18 +231,5 @@ impl Code {
             Some(part) => self.place(part),
             None => 0,
         }
-    }
-}
-
-/// What a section executes. The first one may be a statement without a `section` before it.
-fn section_statement(code: &Code, part: Option<u32>) -> Option<u32>
-    requires { IsPart code.now.trees part }
-    ensures statement { part_at code.now.trees result ≡
-        clauses.section_statement (kind_of (part_at code.now.trees part)) (part_at code.now.trees part) }
-    ensures there { IsPart code.now.trees result }
-{
-    match code.kind(part) {
-        NodeKind::Section => code.child(part, 0),
-        _ => part,
     }
 }

@@ -16,7 +16,7 @@ ghost use Rattle.c_steps.specs.Rests.{parts_from, with_part};
 
 use crate::file::FileNames;
 use crate::functions::Functions;
-use crate::parts::{child_of_part, kind_of_part, name_of_part, next_part, number_of_part};
+use crate::parts::{child_of_part, kind_of_part, name_of_part, next_part};
 use crate::slots::slots;
 use crate::widths::{inner_names, most_of_functions, step_names};
 use c_check::Program;
@@ -165,7 +165,10 @@ impl Code {
         requires { IsPart self.now.trees part }
         ensures { result ≡ pos (number_of (part_at self.now.trees part)) }
     {
-        number_of_part(self.tree(), part)
+        match part {
+            Some(node) => self.tree().number(node),
+            None => 0,
+        }
     }
 
     /// The place of a node as tools are told it.

@@ -5,7 +5,7 @@ ghost use Rattle.c_syntax.specs.language.Numbered.{tree_at};
 ghost use Rattle.c_model.specs.declared.limits.TheConstants.{CELL_LIMIT};
 ghost use Rattle.c_model.specs.Cells.{cell_at, entry_at_slot, entry_of};
 ghost use Rattle.c_model.specs.Parts.{parts};
-ghost use Rattle.c_model.specs.Value.{all_values, binary_value, cell_of, element, getter_number, unary_value, value};
+ghost use Rattle.c_model.specs.Value.{all_values, binary_value, cell_of, element, getter_number, value};
 ghost use Rattle.c_syntax.specs.language.Tree.{kind_of};
 ghost use Rattle.c_steps.specs.Arguments.{without_values};
 ghost use Rattle.c_steps.specs.Chains.{IsChain, left_below};
@@ -21,7 +21,7 @@ use crate::numbers::{binary_result, deciding_value, unary_result};
 use crate::parts::next_part;
 use crate::scope::Scope;
 use c_model::{Entry, INDEX, View};
-use c_syntax::{BinaryOp, Getter, NodeKind, UnaryOp};
+use c_syntax::{BinaryOp, Getter, NodeKind};
 
 /// How many binary operators may stand in one another whose numbers are found by calls in one another. What is deeper is found chain by chain.
 const DEPTH: u32 = 64;
@@ -133,7 +133,10 @@ impl<'a> Scope<'a> {
             },
             NodeKind::Paren => self.operand(node, 0, depth),
             NodeKind::Getter(which) => Ok(thread_number(which, self.view)),
-            NodeKind::Unary(operator) => self.unary(operator, node, depth),
+            NodeKind::Unary(operator) => match self.operand(node, 0, depth) {
+                Err(trap) => Err(trap),
+                Ok(number) => unary_result(operator, number),
+            },
             NodeKind::Binary(operator) => match depth.checked_sub(1) {
                 Some(depth) => self.joined(operator, node, self.operand(node, 0, depth), depth),
                 None => self.binary(operator, node),
@@ -156,19 +159,14 @@ impl<'a> Scope<'a> {
         match self.tree.kind(child) {
             NodeKind::Number => Ok(self.tree.number(child)),
             NodeKind::Place => match self.tree.child(child, 0) {
-                None => Ok(self.named_number(self.tree.name(child))),
+                None => {
+                    let entry = self.entry(self.tree.name(child));
+                    Ok(number_in(self.cells, entry.first as usize))
+                }
                 Some(_) => self.node_value(child, depth),
             },
             _ => self.node_value(child, depth),
         }
-    }
-
-    /// What is in the first cell of a name.
-    #[inline(always)]
-    fn named_number(&self, name: u32) -> i32
-        ensures { result ≡ cell_at self.now.cells.now (entry_of (scope_of self.now).env name).first }
-    {
-        number_in(self.cells, self.entry(name).first as usize)
     }
 
     #[cycle(values)]
@@ -185,18 +183,6 @@ impl<'a> Scope<'a> {
                 Err(trap) => Err(trap),
                 Ok(index) => element(entry, index),
             },
-        }
-    }
-
-    #[cycle(values)]
-    #[inline(always)]
-    fn unary(&self, operator: UnaryOp, node: u32, depth: u32) -> Result<i32, u8>
-        requires { node < length self.now.tree.now.trees }
-        ensures { result ≡ unary_value operator (operand_at self.now node 0) }
-    {
-        match self.operand(node, 0, depth) {
-            Err(trap) => Err(trap),
-            Ok(number) => unary_result(operator, number),
         }
     }
 

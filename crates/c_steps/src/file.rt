@@ -1,7 +1,6 @@
 //! The names and the cells of a file.
 
 ghost use Rattle.std.specs.Prelude.{◌≡◌, ◌<◌, ◌≤◌, ◌++◌, [], ◌∷◌, length, pos, replicate, IfOk, OnOk};
-ghost use Rattle.c_syntax.specs.declared.node.NodeKind.TheVariants.{GlobalSet as global_set};
 ghost use Rattle.c_syntax.specs.language.Numbered.{tree_at};
 ghost use Rattle.c_model.specs.Calls.{file_bound};
 ghost use Rattle.c_model.specs.Cells as cells;
@@ -130,7 +129,10 @@ fn push_first(numbers: &mut Vec<i32>, kind: NodeKind, number: u32) -> Result<u32
 {
     match kind {
         NodeKind::GlobalArray | NodeKind::LocalArray => push_zeros(numbers, number),
-        NodeKind::GlobalSet(sign) => push_one(numbers, signed(sign, number)),
+        NodeKind::GlobalSet(sign) => match sign {
+            Sign::Plus => push_one(numbers, number as i32),
+            Sign::Minus => push_one(numbers, -(number as i32)),
+        },
         _ => push_one(numbers, 0),
     }
 }
@@ -154,15 +156,4 @@ fn push_one(numbers: &mut Vec<i32>, number: i32) -> Result<u32, AllocError>
 {
     numbers.push(number)?;
     Ok(1)
-}
-
-/// A number with a sign.
-fn signed(sign: Sign, number: u32) -> i32
-    requires { number ≤ 2147483647 }
-    ensures { result ≡ cells.signed_number (global_set sign) number }
-{
-    match sign {
-        Sign::Plus => number as i32,
-        Sign::Minus => -(number as i32),
-    }
 }

@@ -1,9 +1,9 @@
 //! What a control's stack holds.
 
-ghost use Rattle.std.specs.Prelude.{◌≡◌, ◌∷◌, []};
-ghost use Rattle.c_steps.specs.Ready.{CanBegin};
+ghost use Rattle.std.specs.Prelude.{◌∷◌, []};
 ghost use Rattle.c_steps.specs.FrontFrame.{BeginsAs};
-ghost use Rattle.c_steps.specs.Trying.{HasPart, IsBegunFrame, next_part};
+ghost use Rattle.c_steps.specs.Ready.{CanBegin};
+ghost use Rattle.c_steps.specs.Trying.{IsBegunFrame};
 
 use crate::item::Item;
 use crate::listed::ListedPlace;
@@ -43,39 +43,6 @@ pub(crate) enum Frame {
     },
 }
 
-/// The frame when the item has begun that stands next by it. `None` where nothing is left of it.
-#[inline(always)]
-pub(crate) fn begun(frame: &Frame) -> Option<Frame>
-    requires { CanBegin (frame.now ∷ []) }
-    ensures { BeginsAs frame.now result }
-{
-    match *frame {
-        Frame::One(_) => None,
-        Frame::Parts {
-            block,
-            place,
-            at,
-            names,
-        } => Some(Frame::Parts {
-            block,
-            place,
-            at: at + 1,
-            names,
-        }),
-        Frame::Combines {
-            construct,
-            from,
-            names,
-            ..
-        } => Some(Frame::Combining {
-            construct,
-            from,
-            names,
-        }),
-        Frame::Combining { .. } | Frame::Caller { .. } => Some(*frame),
-    }
-}
-
 impl Frame {
     /// The item begins that stands next by it. Answers whether the frame stays.
     #[inline(always)]
@@ -103,15 +70,12 @@ impl Frame {
         true
     }
 
-    /// The part of the block is past that stands next.
+    /// The frame when the item has begun that stands next by it. `None` where nothing is left of it.
     #[inline(always)]
-    pub(crate) fn next_part(&mut self)
-        requires { HasPart self.old }
-        ensures { self.new ≡ next_part self.old }
+    pub(crate) fn begun(mut self) -> Option<Frame>
+        requires { CanBegin (self ∷ []) }
+        ensures { BeginsAs self result }
     {
-        if let Frame::Parts { place, at, .. } = self {
-            *place += 1;
-            *at = 0;
-        }
+        if self.begin() { Some(self) } else { None }
     }
 }

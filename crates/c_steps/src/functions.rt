@@ -62,21 +62,12 @@ impl Functions {
         match tree.kind(part) {
             NodeKind::Function(_) => {
                 let name = name_of_part(tree, child_of_part(tree, Some(part), 0));
-                self.add(name, part)
+                self.reach(name as usize)?;
+                self.keep_first(name as usize, part);
+                Ok(())
             }
             _ => Ok(()),
         }
-    }
-
-    /// A function counts for a name, if none does yet.
-    fn add(&mut self, name: u32, function: u32) -> Result<(), AllocError>
-        ensures { OnOk result ((other : ℕ) →
-            slice_index_or self.new other None ≡ option_or (slice_index_or self.old other None) (if name == other
-            then Some function else None)) }
-    {
-        self.reach(name as usize)?;
-        self.keep_first(name as usize, function);
-        Ok(())
     }
 
     /// The list reaches past this number.

@@ -16,7 +16,10 @@ pub(crate) fn entry_among(file: &[Entry], names: &[Entry], name: u32) -> Entry
 {
     match newest_named(names, name) {
         Some(entry) => entry,
-        None => file_entry(file, name),
+        None => match newest_named(file, name) {
+            Some(entry) => entry,
+            None => no_entry(),
+        },
     }
 }
 
@@ -27,7 +30,10 @@ pub(crate) fn slot_entry(file: &[Entry], names: &[Entry], slot: u32) -> Entry
 {
     match newest_of_slot(names, slot) {
         Some(entry) => entry,
-        None => file_entry_of_slot(file, slot),
+        None => match newest_of_slot(file, slot) {
+            Some(entry) => entry,
+            None => no_entry(),
+        },
     }
 }
 
@@ -47,17 +53,6 @@ fn newest_named(entries: &[Entry], name: u32) -> Option<Entry>
     None
 }
 
-/// The newest entry of a name, or that of a name that nothing declares.
-#[inline(always)]
-fn file_entry(entries: &[Entry], name: u32) -> Entry
-    ensures { result ≡ last_named name no_entry entries.now }
-{
-    match newest_named(entries, name) {
-        Some(entry) => entry,
-        None => no_entry(),
-    }
-}
-
 /// The newest entry of a slot.
 #[tactic(auto, using(crate::proofs::ValuesOfSlots::slot_last, crate::proofs::ValuesOfSlots::slot_none))]
 fn newest_of_slot(entries: &[Entry], slot: u32) -> Option<Entry>
@@ -71,16 +66,6 @@ fn newest_of_slot(entries: &[Entry], slot: u32) -> Option<Entry>
         older = rest;
     }
     None
-}
-
-/// The newest entry of a slot, or that of a name that nothing declares.
-fn file_entry_of_slot(entries: &[Entry], slot: u32) -> Entry
-    ensures { result ≡ last_of_slot slot no_entry entries.now }
-{
-    match newest_of_slot(entries, slot) {
-        Some(entry) => entry,
-        None => no_entry(),
-    }
 }
 
 /// The oldest entry of a name, or that of a name that nothing declares.

@@ -49,7 +49,6 @@ mod next;
 mod node;
 mod numbers;
 mod parts;
-mod plain;
 mod printing;
 mod scope;
 mod slots;

@@ -5,12 +5,12 @@ ghost use Rattle.c_syntax.specs.language.Tree.{Tree as syntax_tree, kind_of};
 ghost use Rattle.c_syntax.specs.language.Numbered.{tree_at};
 ghost use Rattle.c_model.specs.Clauses.{clauses_of, listed_among, listed_by};
 ghost use Rattle.c_model.specs.Copies as copies;
-ghost use Rattle.c_model.specs.Loops.{loop_of};
 ghost use Rattle.c_model.specs.Parts.{parts};
 ghost use Rattle.c_steps.specs.NodeTrees.{tree_of};
 ghost use Rattle.c_steps.specs.Nodes.{IsPart, part_at};
 ghost use Rattle.c_steps.specs.ListedNames.{listed_from, listed_in, names_by, names_from, with_found, with_name, with_name_of_clause, with_name_of_part, without_first};
 
+use crate::loops::loop_nodes;
 use crate::node::Node;
 use crate::parts::{child_of_part, kind_of_part, name_of_part, next_part};
 use c_syntax::{Data, Directive, NodeKind, ReductionOp, Tree};
@@ -142,17 +142,6 @@ pub(crate) fn is_loop(construct: Node) -> bool
     )
 }
 
-/// The variable of the loop that a construct shares out: a place, or the name that the loop declares.
-pub(crate) fn loop_variable(construct: Node) -> Option<u32>
-    ensures variable { part_at construct.entry.code.now.trees result ≡ (loop_of (tree_of construct.entry)).variable }
-    ensures there { IsPart construct.entry.code.now.trees result }
-{
-    match construct.code.program().shared_loop(construct.number) {
-        Some(found) => Some(found.variable),
-        None => None,
-    }
-}
-
 /// Whether a name that a clause of a construct lists is that of the loop's own variable.
 fn is_own_loop_variable(construct: Node, name: u32) -> bool
     ensures { result ≡ copies.is_own_loop_variable (tree_of construct.entry) name }
@@ -160,7 +149,7 @@ fn is_own_loop_variable(construct: Node, name: u32) -> bool
     if !is_loop(construct) {
         return false;
     }
-    let variable = loop_variable(construct);
+    let variable = loop_nodes(construct).variable;
     match construct.code.kind(variable) {
         NodeKind::Name => false,
         _ => construct.code.name(variable) == name,

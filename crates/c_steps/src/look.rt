@@ -6,6 +6,7 @@ ghost use Rattle.c_syntax.specs.language.Numbered.{tree_at};
 ghost use Rattle.c_steps.specs.Items.{declarators_from, item_at};
 ghost use Rattle.c_steps.specs.Looking.{Looks};
 ghost use Rattle.c_steps.specs.Ready.{IsFrame, IsItem};
+ghost use Rattle.c_steps.specs.Trying.{Shows, item_of};
 ghost use Rattle.c_model.specs.Task.{item_of_part};
 ghost use Rattle.c_steps.specs.declared.frame.Frame.TheVariants.{Parts as parts_frame, Combining as reductions_frame};
 
@@ -15,6 +16,27 @@ use crate::item::Item;
 use crate::listed::{Copying, ListedPlace, next_listed};
 use crate::node::Node;
 use c_syntax::NodeKind;
+
+/// What stands next, where it is no part of a construct. Each stands for the item of the same name.
+#[derive(Clone, Copy)]
+pub(crate) enum Plain {
+    Start(u32),
+    Declare(u32),
+    Leave(usize),
+    Test { node: u32, names: usize },
+    Third { node: u32, names: usize },
+    Return(i32),
+    FallOff,
+}
+
+/// What a frame says of what stands next, where that is plain.
+#[derive(Clone, Copy)]
+pub(crate) enum Shown {
+    /// This stands next.
+    Next(Plain),
+    /// Another frame says the same.
+    Instead(Frame),
+}
 
 /// What a frame on top says of what stands next.
 #[derive(Clone, Copy)]
@@ -46,7 +68,10 @@ pub(crate) fn look_at(code: &Code, frame: &Frame) -> Look
             place,
             at,
             names,
-        } => look_at_parts(code, block, place, at, names),
+        } => match shown_part(code, block, place, at, names) {
+            Shown::Next(plain) => Look::Found(item_of(plain)),
+            Shown::Instead(other) => Look::Instead(other),
+        },
         Frame::Combining {
             construct,
             from,
@@ -63,27 +88,6 @@ pub(crate) fn look_at(code: &Code, frame: &Frame) -> Look
             names,
         }),
         Frame::Caller { .. } => Look::Nothing,
-    }
-}
-
-/// What the parts of a block say that are left.
-#[tactic(auto, using(crate::proofs::Looking::instead_cases))]
-#[inline(always)]
-fn look_at_parts(code: &Code, block: u32, place: u32, at: u32, names: usize) -> Look
-    requires { block < length code.now.trees }
-    ensures { Looks code.now (parts_frame block place at names) result }
-{
-    let Some(part) = code.part(Some(block), place) else {
-        return Look::Instead(Frame::One(Item::Leave(names)));
-    };
-    match declarator(code, part, at) {
-        None => Look::Instead(Frame::Parts {
-            block,
-            place: place + 1,
-            at: 0,
-            names,
-        }),
-        Some(node) => Look::Found(item_of_part(code, node)),
     }
 }
 
@@ -113,24 +117,96 @@ fn look_at_reductions(code: &Code, construct: u32, from: ListedPlace, names: usi
     }
 }
 
-/// A part of a block as an item.
+/// What the parts of a block say that are left.
+#[tactic(auto, using(crate::proofs::Looking::instead_cases))]
 #[inline(always)]
-fn item_of_part(code: &Code, node: u32) -> Item
+fn shown_part(code: &Code, block: u32, place: u32, at: u32, names: usize) -> Shown
+    requires { block < length code.now.trees }
+    ensures { Shows code.now (parts_frame block place at names) result }
+{
+    let Some(part) = code.part(Some(block), place) else {
+        return Shown::Instead(Frame::One(Item::Leave(names)));
+    };
+    match declarator(code, part, at) {
+        None => Shown::Instead(Frame::Parts {
+            block,
+            place: place + 1,
+            at: 0,
+            names,
+        }),
+        Some(node) => Shown::Next(plain_part(code, node)),
+    }
+}
+
+/// A part of a block.
+#[inline(always)]
+fn plain_part(code: &Code, node: u32) -> Plain
     requires { node < length code.now.trees }
-    ensures item { item_at code.now result ≡ item_of_part (tree_at code.now.trees node) }
-    ensures is_item { IsItem code.now result }
+    ensures item { item_at code.now (item_of result) ≡ item_of_part (tree_at code.now.trees node) }
+    ensures is_item { IsItem code.now (item_of result) }
 {
     match code.kind(Some(node)) {
         NodeKind::Name | NodeKind::LocalVar | NodeKind::LocalArray | NodeKind::LocalSet => {
-            Item::Declare(node)
+            Plain::Declare(node)
         }
-        _ => Item::Start(Some(node)),
+        _ => Plain::Start(node),
+    }
+}
+
+/// What a frame on top says of what stands next, where that is plain.
+#[tactic(auto, using(crate::proofs::Looking::shows_plain))]
+#[inline(always)]
+pub(crate) fn plain_look(code: &Code, frame: &Frame) -> Option<Shown>
+    requires { IsFrame code.now frame.now }
+    ensures { IfSome result (Shows code.now frame.now) }
+{
+    match frame {
+        Frame::One(item) => Some(Shown::Next(plain_item(item)?)),
+        Frame::Parts {
+            block,
+            place,
+            at,
+            names,
+        } => Some(shown_part(code, *block, *place, *at, *names)),
+        _ => None,
+    }
+}
+
+/// The item, if it is a plain one.
+#[inline(always)]
+fn plain_item(item: &Item) -> Option<Plain>
+    ensures { IfSome result (λ plain. item.now ≡ item_of plain) }
+{
+    match *item {
+        Item::Start(Some(node)) => Some(Plain::Start(node)),
+        Item::Leave(names) => Some(Plain::Leave(names)),
+        Item::Test { node, names } => Some(Plain::Test { node, names }),
+        Item::Third { node, names } => Some(Plain::Third { node, names }),
+        Item::Return(number) => Some(Plain::Return(number)),
+        Item::FallOff => Some(Plain::FallOff),
+        _ => None,
+    }
+}
+
+/// A plain item.
+#[inline(always)]
+fn item_of(plain: Plain) -> Item
+    ensures { result ≡ item_of plain }
+{
+    match plain {
+        Plain::Start(node) => Item::Start(Some(node)),
+        Plain::Declare(node) => Item::Declare(node),
+        Plain::Leave(names) => Item::Leave(names),
+        Plain::Test { node, names } => Item::Test { node, names },
+        Plain::Third { node, names } => Item::Third { node, names },
+        Plain::Return(number) => Item::Return(number),
+        Plain::FallOff => Item::FallOff,
     }
 }
 
 /// The declarator of a part of a block behind so many. What declares no names is its own only one.
 #[inline(always)]
-pub(crate) fn declarator(code: &Code, part: u32, at: u32) -> Option<u32>
+fn declarator(code: &Code, part: u32, at: u32) -> Option<u32>
     requires { part < length code.now.trees }
     ensures found { IfSome result (λ node.
         declarators_from (kind_of (tree_at code.now.trees part)) (tree_at code.now.trees part) at ≡

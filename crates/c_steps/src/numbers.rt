@@ -1,8 +1,8 @@
 //! The operators of expressions and reductions on numbers of 32 bits (C11 6.5).
 
-ghost use Rattle.std.specs.Prelude.{◌≡◌, ◌+ℤ◌, ◌-ℤ◌, ◌*ℤ◌, if◌then◌else◌, int_le, neg_ℤ};
+ghost use Rattle.std.specs.Prelude.{◌≡◌};
 ghost use Rattle.c_model.specs.Constructs.{reduction_result};
-ghost use Rattle.c_model.specs.Value.{in_range, truth, quotient, remainder, binary_result, unary_result, deciding_value};
+ghost use Rattle.c_model.specs.Value.{truth, quotient, remainder, binary_result, unary_result, deciding_value};
 
 use c_model::{OVERFLOW, ZERO_DIVIDE};
 use c_syntax::{BinaryOp, ReductionOp, UnaryOp};
@@ -19,9 +19,9 @@ pub(crate) fn binary_result(operator: BinaryOp, left: i32, right: i32) -> Result
         BinaryOp::LessEqual => Ok(truth(left <= right)),
         BinaryOp::Greater => Ok(truth(right < left)),
         BinaryOp::GreaterEqual => Ok(truth(right <= left)),
-        BinaryOp::Add => sum(left, right),
-        BinaryOp::Subtract => difference(left, right),
-        BinaryOp::Multiply => product(left, right),
+        BinaryOp::Add => left.checked_add(right).ok_or(OVERFLOW),
+        BinaryOp::Subtract => left.checked_sub(right).ok_or(OVERFLOW),
+        BinaryOp::Multiply => left.checked_mul(right).ok_or(OVERFLOW),
         BinaryOp::Divide => quotient(left, right),
         BinaryOp::Remainder => remainder(left, right),
         BinaryOp::Or | BinaryOp::And => Ok(truth(right != 0)),
@@ -33,7 +33,7 @@ pub(crate) fn unary_result(operator: UnaryOp, number: i32) -> Result<i32, u8>
     ensures { result ≡ unary_result operator number }
 {
     match operator {
-        UnaryOp::Negate => opposite(number),
+        UnaryOp::Negate => number.checked_neg().ok_or(OVERFLOW),
         UnaryOp::Not => Ok(truth(number == 0)),
     }
 }
@@ -55,23 +55,11 @@ pub(crate) fn reduction_result(operator: ReductionOp, around: i32, own: i32) -> 
     ensures { result ≡ reduction_result operator around own }
 {
     match operator {
-        ReductionOp::Add => sum(around, own),
-        ReductionOp::Multiply => product(around, own),
-        ReductionOp::Max => Ok(greater(around, own)),
-        ReductionOp::Min => Ok(lesser(around, own)),
+        ReductionOp::Add => around.checked_add(own).ok_or(OVERFLOW),
+        ReductionOp::Multiply => around.checked_mul(own).ok_or(OVERFLOW),
+        ReductionOp::Max => { if around <= own { Ok(own) } else { Ok(around) } }
+        ReductionOp::Min => { if around <= own { Ok(around) } else { Ok(own) } }
     }
-}
-
-fn greater(left: i32, right: i32) -> i32
-    ensures { result ≡ (if int_le left right then right else left) }
-{
-    if left <= right { right } else { left }
-}
-
-fn lesser(left: i32, right: i32) -> i32
-    ensures { result ≡ (if int_le left right then left else right) }
-{
-    if left <= right { left } else { right }
 }
 
 /// 1 or 0.
@@ -80,33 +68,6 @@ fn truth(holds: bool) -> i32
     ensures { result ≡ truth holds }
 {
     if holds { 1 } else { 0 }
-}
-
-#[inline(always)]
-fn sum(left: i32, right: i32) -> Result<i32, u8>
-    ensures { result ≡ in_range (left +ℤ right) }
-{
-    left.checked_add(right).ok_or(OVERFLOW)
-}
-
-#[inline(always)]
-fn difference(left: i32, right: i32) -> Result<i32, u8>
-    ensures { result ≡ in_range (left -ℤ right) }
-{
-    left.checked_sub(right).ok_or(OVERFLOW)
-}
-
-#[inline(always)]
-fn product(left: i32, right: i32) -> Result<i32, u8>
-    ensures { result ≡ in_range (left *ℤ right) }
-{
-    left.checked_mul(right).ok_or(OVERFLOW)
-}
-
-fn opposite(number: i32) -> Result<i32, u8>
-    ensures { result ≡ in_range (neg_ℤ number) }
-{
-    number.checked_neg().ok_or(OVERFLOW)
 }
 
 /// Toward 0.

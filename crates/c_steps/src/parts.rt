@@ -1,7 +1,7 @@
 //! The parts of a tree by the numbers of their nodes. A part that is missing is that of an empty program.
 
-ghost use Rattle.std.specs.Prelude.{◌≡◌, ◌<◌, ◌+◌, length, is_some, pos, IfSome};
-ghost use Rattle.c_syntax.specs.language.Tree.{kind_of, name_of, number_of};
+ghost use Rattle.std.specs.Prelude.{◌≡◌, ◌<◌, ◌+◌, length, is_some, IfSome};
+ghost use Rattle.c_syntax.specs.language.Tree.{kind_of, name_of};
 ghost use Rattle.c_check.specs.Loops.{child_at};
 ghost use Rattle.c_model.specs.Parts.{has_child, parts};
 ghost use Rattle.c_model.specs.Task as tasks;
@@ -44,18 +44,6 @@ pub(crate) fn name_of_part(tree: &Tree, part: Option<u32>) -> u32
 {
     match part {
         Some(node) => tree.name(node),
-        None => 0,
-    }
-}
-
-/// The value of a part's number, 0 where it has none.
-#[inline(always)]
-pub(crate) fn number_of_part(tree: &Tree, part: Option<u32>) -> i32
-    requires { IsPart tree.now.trees part }
-    ensures { result ≡ pos (number_of (part_at tree.now.trees part)) }
-{
-    match part {
-        Some(node) => tree.number(node),
         None => 0,
     }
 }

@@ -1,7 +1,7 @@
 //! What a `printf` prints (C11 7.21.6.1).
 
 ghost use Rattle.std.specs.Prelude.{◌≡◌, ◌+◌, ◌<◌, ◌≤◌, ℕ, ℤ, List, [], ◌∷◌, ◌++◌, length, take, not, nat_lt, if◌then◌else◌, vec_capacity, IfNone, IfSome, MatchOption};
-ghost use Rattle.c_model.specs.Text.{escaped_byte, first_decimal, numbers_behind_first, printed_text, text_behind_backslash, text_behind_percent};
+ghost use Rattle.c_model.specs.Text.{escaped_byte, first_decimal, numbers_behind_first};
 ghost use Rattle.c_steps.specs.Arguments.{HaveValues, numbers_behind};
 ghost use Rattle.c_steps.specs.Printing.{numbers_left, piece_text, text_left, text_printed};
 
@@ -174,51 +174,32 @@ fn number_at(scope: &Scope<'_>, node: u32, place: u32) -> Option<i32>
 }
 
 /// What a byte prints behind what stands before it, and what stands before the next byte.
+#[tactic(auto, using(crate::proofs::PrintingText::plain_is, crate::proofs::PrintingText::percent_is, crate::proofs::PrintingText::backslash_is))]
 fn read_byte(before: Before, byte: u8) -> (Piece, Before)
     ensures { (bytes : List ℕ) (numbers : List ℤ) → text_left before (byte ∷ bytes) numbers
         ≡ piece_text result.0 numbers ++ text_left result.1 bytes (numbers_left result.0 numbers) }
 {
     match before {
-        Before::Plain => read_plain(byte),
-        Before::Percent => read_percent(byte),
-        Before::Backslash => read_backslash(byte),
+        Before::Plain => {
+            if byte == b'%' {
+                (Piece::Nothing, Before::Percent)
+            } else if byte == b'\\' {
+                (Piece::Nothing, Before::Backslash)
+            } else {
+                (Piece::Byte(byte), Before::Plain)
+            }
+        }
+        Before::Percent => {
+            if byte == b'd' {
+                (Piece::Number, Before::Plain)
+            } else if byte == b'%' {
+                (Piece::Byte(b'%'), Before::Plain)
+            } else {
+                (Piece::Nothing, Before::Plain)
+            }
+        }
+        Before::Backslash => (Piece::Byte(escaped_byte(byte)), Before::Plain),
     }
-}
-
-#[tactic(auto, using(crate::proofs::PrintingText::plain_is))]
-fn read_plain(byte: u8) -> (Piece, Before)
-    ensures { (bytes : List ℕ) (numbers : List ℤ) → printed_text (byte ∷ bytes) numbers
-        ≡ piece_text result.0 numbers ++ text_left result.1 bytes (numbers_left result.0 numbers) }
-{
-    if byte == b'%' {
-        (Piece::Nothing, Before::Percent)
-    } else if byte == b'\\' {
-        (Piece::Nothing, Before::Backslash)
-    } else {
-        (Piece::Byte(byte), Before::Plain)
-    }
-}
-
-#[tactic(auto, using(crate::proofs::PrintingText::percent_is))]
-fn read_percent(byte: u8) -> (Piece, Before)
-    ensures { (bytes : List ℕ) (numbers : List ℤ) → text_behind_percent (byte ∷ bytes) numbers
-        ≡ piece_text result.0 numbers ++ text_left result.1 bytes (numbers_left result.0 numbers) }
-{
-    if byte == b'd' {
-        (Piece::Number, Before::Plain)
-    } else if byte == b'%' {
-        (Piece::Byte(b'%'), Before::Plain)
-    } else {
-        (Piece::Nothing, Before::Plain)
-    }
-}
-
-#[tactic(auto, using(crate::proofs::PrintingText::backslash_is))]
-fn read_backslash(byte: u8) -> (Piece, Before)
-    ensures { (bytes : List ℕ) (numbers : List ℤ) → text_behind_backslash (byte ∷ bytes) numbers
-        ≡ piece_text result.0 numbers ++ text_left result.1 bytes (numbers_left result.0 numbers) }
-{
-    (Piece::Byte(escaped_byte(byte)), Before::Plain)
 }
 
 /// What a byte behind a backslash stands for (C11 5.2.2).

@@ -1,7 +1,6 @@
 //! The slots of the names of a program, by the numbers of its nodes.
 
-ghost use Rattle.std.specs.Prelude.{◌≡◌, ◌<◌, length, map, IfOk};
-ghost use Rattle.c_syntax.specs.language.Numbered.{tree_at};
+ghost use Rattle.std.specs.Prelude.{◌≡◌, map, IfOk};
 ghost use Rattle.c_check.specs.Seen.{slot_of_name};
 
 use c_check::Program;
@@ -15,19 +14,10 @@ pub(crate) fn slots(alloc: Global, program: &Program) -> Result<Vec<u32>, AllocE
     let count = program.tree().len();
     let mut slots = Vec::with_capacity(alloc, count)?;
     for node in 0..count {
-        let slot = slot_of(program, node)?;
-        slots.push(slot)?;
+        let Ok(node) = u32::try_from(node) else {
+            return Err(AllocError);
+        };
+        slots.push(program.slot(node))?;
     }
     Ok(slots)
-}
-
-/// The slot of the name that stands where a node begins.
-fn slot_of(program: &Program, node: usize) -> Result<u32, AllocError>
-    requires { node < length program.now.trees }
-    ensures { IfOk result (λ slot. slot ≡ slot_of_name program.now (tree_at program.now.trees node)) }
-{
-    match u32::try_from(node) {
-        Ok(node) => Ok(program.slot(node)),
-        Err(_) => Err(AllocError),
-    }
 }

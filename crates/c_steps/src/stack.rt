@@ -4,7 +4,7 @@ ghost use Rattle.std.specs.Prelude.{◌≡◌, ◌+◌, ◌<◌, ◌≤◌, [], 
 ghost use Rattle.std.specs.Option.{option_map};
 ghost use Rattle.c_steps.specs.declared.stack.TheConstants.{LEAST_ROOM};
 ghost use Rattle.c_steps.specs.Ready.{CanBegin};
-ghost use Rattle.c_steps.specs.Trying.{HasPartOnTop, IsBegun, next_on_top};
+ghost use Rattle.c_steps.specs.Trying.{IsBegun};
 
 use crate::frame::Frame;
 use std::alloc::{AllocError, Global};
@@ -46,14 +46,6 @@ impl<T: Copy + Drop> Stack<T> {
             items: Vec::with_capacity(alloc, LEAST_ROOM)?,
             free: LEAST_ROOM,
         })
-    }
-
-    /// How many are on it.
-    #[inline(always)]
-    pub(crate) fn len(&self) -> usize
-        ensures { result ≡ length self.now.frames }
-    {
-        self.items.len()
     }
 
     /// What is on top.
@@ -140,17 +132,5 @@ impl Stack<Frame> {
             return true;
         };
         frame.begin()
-    }
-
-    /// The part of a block is past that stands next.
-    #[inline(always)]
-    pub(crate) fn next_part(&mut self)
-        requires { HasPartOnTop self.old.frames }
-        ensures { self.new ≡ record self.old { frames = next_on_top self.old.frames } }
-    {
-        let Some(frame) = self.items.last_mut() else {
-            return;
-        };
-        frame.next_part();
     }
 }

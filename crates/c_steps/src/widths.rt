@@ -194,19 +194,13 @@ pub(crate) fn step_names(tree: &Tree) -> Result<usize, AllocError>
     let count = tree.len();
     let mut most = 0usize;
     for node in 0..count {
-        most = names_of_step(tree, node)?.max(most);
+        let Ok(node) = u32::try_from(node) else {
+            return Err(AllocError);
+        };
+        let listed = listed_count(tree, node)?;
+        most = (part_count(tree, Some(node)) as usize)
+            .max(listed)
+            .max(most);
     }
     most.checked_add(1).ok_or(AllocError)
-}
-
-/// How many parts a node has, or how many variables its clauses list, whichever is more.
-fn names_of_step(tree: &Tree, node: usize) -> Result<usize, AllocError>
-    requires { node < length tree.now.trees }
-    ensures { IfOk result (λ names. names ≡ numbers.names_of_step (tree_at tree.now.trees node)) }
-{
-    let Ok(node) = u32::try_from(node) else {
-        return Err(AllocError);
-    };
-    let listed = listed_count(tree, node)?;
-    Ok((part_count(tree, Some(node)) as usize).max(listed))
 }

@@ -2,14 +2,15 @@
 use Rattle.std.proofs.Common.{◌≡◌, ℕ, zero, suc, ◌<◌, ◌≤◌, ◌+◌, ◌-◌, ◌++◌, List, [], ◌∷◌, length, slice_index_or, slice_set, Option, None, Some, IfSome, sym, ap, ◌∙◌, subst, arith}
 use Rattle.std.specs.List.{All}
 use Rattle.std.proofs.lemmas.List.{get_or-set_same, get_or_append_left, length-append, length-set}
-use Rattle.std.proofs.lemmas.List.Elements.{All-cons, All-nil, All-push, All-set}
+use Rattle.std.proofs.lemmas.List.Elements.{All-cons, All-head, All-nil, All-push, All-set, All-tail}
 use Rattle.std.proofs.lemmas.Option.{IfSome_then}
 use Rattle.c_syntax.specs.language.Numbered.{TreeView}
 use Rattle.c_steps.specs.ControlView.{ControlView}
 use Rattle.c_steps.specs.OfProgram.{IsMadeFor}
 use Rattle.omp_board.specs.declared.task.Task.{Task}
 use Rattle.omp_board.specs.Keeping.{HasRoomIn, IsKept, IsOfProgram, control_at, kept_nothing}
-use Rattle.omp_board.specs.Tasks.{TaskRoom, no_task_room}
+use Rattle.omp_board.specs.declared.tasks.TaskRoom.{TaskRoom}
+use Rattle.omp_board.specs.Tasks.{no_task_room}
 
 -- a task keeps no code any more
 without : (tasks : List Task) (k j : ℕ) (new : Task) (P : ControlView → Type 0) → new.control ≡ None → IfSome (control_at tasks j) P → IfSome (control_at (slice_set tasks k new) j) P
@@ -18,6 +19,12 @@ without (task ∷ tasks) zero zero new P none some = subst (λ (control : Option
 without (task ∷ tasks) zero (suc j) new P none some = some
 without (task ∷ tasks) (suc k) zero new P none some = some
 without (task ∷ tasks) (suc k) (suc j) new P none some = without tasks k j new P none some
+
+-- the control of a task is of the program
+pub made_at : (program : TreeView) (tasks : List Task) (k : ℕ) (control : ControlView) → All (IsOfProgram program) tasks → Some control ≡ control_at tasks k → IsMadeFor program control
+made_at program [] k control all is = absurd cc
+made_at program (task ∷ tasks) zero control all is = subst (λ (control : Option ControlView). IfSome control (IsMadeFor program)) (sym is) (All-head (IsOfProgram program) task tasks all)
+made_at program (task ∷ tasks) (suc k) control all is = made_at program tasks k control (All-tail (IsOfProgram program) task tasks all) is
 
 module _ (program : TreeView) (tasks : List Task) (capacity : ℕ) (blanks : List ControlView) (room : TaskRoom) (kept : IsKept program tasks capacity blanks room) where
   -- one more task
@@ -39,18 +46,17 @@ module _ (program : TreeView) (tasks : List Task) (capacity : ℕ) (blanks : Lis
         steps = subst (λ (control : Option ControlView). IfSome control (HasRoomIn (record room { tasks = 0 }))) (sym same) (IfSome_then (control_at tasks room.task) kept.steps (λ held has. record { steps = has.steps; passes = has.passes }));
       }
 
-  -- a task's control is kept for another task
-  pub kept_blank : (k : ℕ) (task : Task) (control : ControlView) (blanks_now : List ControlView) → task.control ≡ None → IsMadeFor program control → blanks_now ≡ blanks ++ control ∷ [] → IsKept program (slice_set tasks k task) capacity blanks_now room
-  kept_blank k task control blanks_now none made is =
+  -- a task keeps no code, and no fewer controls without code are kept
+  pub kept_blank : (k : ℕ) (task : Task) (blanks_now : List ControlView) → task.control ≡ None → All (IsMadeFor program) blanks_now → length blanks ≤ length blanks_now → IsKept program (slice_set tasks k task) capacity blanks_now room
+  kept_blank k task blanks_now none made more =
       let there = kept.there in
-      let longer : length blanks_now ≡ length blanks + 1 = ap length is ∙ length-append blanks (control ∷ []) in
       let many : length (slice_set tasks k task) ≡ length tasks = length-set tasks k task in
       let slots = kept.slots in
       let few = kept.few in
       let spare = kept.spare in
       record {
         controls = All-set (IsOfProgram program) tasks k task (subst (λ (control : Option ControlView). IfSome control (IsMadeFor program)) (sym none) tt) kept.controls;
-        blanks_made = subst (All (IsMadeFor program)) (sym is) (All-push (IsMadeFor program) blanks control kept.blanks_made made);
+        blanks_made = made;
         spare = omega arith;
         slots = omega arith;
         few = omega arith;

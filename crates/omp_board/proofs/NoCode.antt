@@ -1,5 +1,5 @@
 -- A task without code: none is kept at its identity, or one whose code has ended.
-use Rattle.std.proofs.Common.{◌≡◌, ℕ, ◌≤◌, List, length, slice_set, slice_index_or, None, pos, refl, sym, ap, ◌∙◌, subst}
+use Rattle.std.proofs.Common.{◌≡◌, ℕ, ◌≤◌, List, length, slice_set, slice_index_or, take, None, pos, refl, sym, ap, ◌∙◌, subst}
 use Rattle.std.proofs.lemmas.List.{get_or_past, set-get_or}
 use Rattle.c_syntax.specs.language.Numbered.{TreeView}
 use Rattle.c_model.specs.declared.point.Point.{Point}
@@ -10,12 +10,26 @@ use Rattle.c_model.specs.Begin.{blank_task}
 use Rattle.c_model.specs.Step.{items_from_next, settled_moment, silent}
 use Rattle.c_model.specs.Task.{Store, Task as Code}
 use Rattle.c_model.specs.Task.Outcome.{Ends}
+use Rattle.c_steps.specs.ControlView.{ControlView, task_at}
+use Rattle.c_steps.specs.Items.{calls_at, todo_at}
+use Rattle.c_steps.specs.OfProgram.{IsBlank}
 use Rattle.c_steps.specs.Passing.{IsEventOfNext}
 use Rattle.omp_model.specs.State.{Task as Seen}
 use Rattle.omp_board.specs.declared.task.Task.{Task}
-use Rattle.omp_board.specs.Keeping.{kept_nothing}
-use Rattle.omp_board.specs.Tasks.{TaskRoom, TasksView, code_in, code_of, moment_in}
-use Rattle.omp_board.proofs.Seen.{seen, seen_at, task_found}
+use Rattle.omp_board.specs.Keeping.{control_at, kept_nothing}
+use Rattle.omp_board.specs.declared.tasks.TaskRoom.{TaskRoom}
+use Rattle.omp_board.specs.Tasks.{TasksView, code_in, code_of, moment_in}
+use Rattle.omp_board.proofs.Seen.{code_at, seen, task_found}
+
+-- a blank control says of it what it is asked
+module _ (program : TreeView) (held : ControlView) (blank : IsBlank held) (code : Code) (none : code ≡ blank_task) where
+  pub no_todo : (task_at program held).todo ≡ code.todo
+  unfolding todo_at
+  no_todo = ap (todo_at program) blank.no_frames ∙ sym (ap (λ (code : Code). code.todo) none)
+
+  pub no_calls : (task_at program held).calls ≡ code.calls
+  unfolding calls_at
+  no_calls = ap (calls_at program (take held.base held.names)) blank.no_frames ∙ sym (ap (λ (code : Code). code.calls) none)
 
 -- it has ended, asks nothing, and comes to no event
 module _ (view : TasksView) (k : ℕ) (none : code_in view k ≡ blank_task) where
@@ -38,7 +52,10 @@ module _ (view : TasksView) (k : ℕ) (none : code_in view k ≡ blank_task) whe
 module _ (program : TreeView) (tasks : List Task) (store : Store) (room : TaskRoom) (view : TasksView) (is : seen program tasks store room ≡ view) (k : ℕ) where
   pub none_past : length tasks ≤ k → code_in view k ≡ blank_task
   none_past past =
-      sym (ap (λ (view : TasksView). code_in view k) is) ∙ ap (λ (task : Seen). task.code) (seen_at program tasks k) ∙ ap (λ (task : Task). code_of program task.control) (get_or_past tasks k kept_nothing past)
+      sym (code_at program tasks store room view is k) ∙ ap (λ (task : Task). code_of program task.control) (get_or_past tasks k kept_nothing past)
+
+  pub none_at : None ≡ control_at tasks k → code_in view k ≡ blank_task
+  none_at none = sym (code_at program tasks store room view is k) ∙ ap (code_of program) (sym none)
 
   module _ (kept : Task) (found : kept ≡ slice_index_or tasks k kept_nothing) (without : kept.control ≡ None) where
     pub none_kept : code_in view k ≡ blank_task

@@ -1,11 +1,11 @@
 -- What the tasks that are kept are seen as, where one of them is written.
-use Rattle.std.proofs.Common.{◌≡◌, ℕ, zero, suc, ◌+◌, ◌-◌, ◌<◌, List, [], ◌∷◌, length, slice_set, slice_index_or, Some, refl, sym, ap, ◌∙◌, subst, arith}
+use Rattle.std.proofs.Common.{◌≡◌, ℕ, zero, suc, ◌+◌, ◌-◌, ◌<◌, List, [], ◌∷◌, ◌++◌, length, slice_set, slice_index_or, Some, refl, sym, ap, ◌∙◌, subst, arith}
 use Rattle.std.proofs.Math.ListN.{get_or-map}
-use Rattle.std.proofs.lemmas.List.{get_or-set_same, length-set, map-set, set-get_or}
+use Rattle.std.proofs.lemmas.List.{get_or-set_same, length-set, map-set, map_push, set-get_or}
 use Rattle.c_syntax.specs.language.Numbered.{TreeView}
 use Rattle.c_model.specs.declared.view.View.{View}
 use Rattle.c_model.specs.Step.{settled_moment, silent}
-use Rattle.c_model.specs.Task.{Moment, Store}
+use Rattle.c_model.specs.Task.{Moment, Store, Task as Code}
 use Rattle.c_model.specs.Task.Outcome.{StepsTo}
 use Rattle.c_model.specs.Upcoming.{upcoming_of}
 use Rattle.c_model.specs.declared.upcoming.Upcoming.TheVariants as upcoming
@@ -14,10 +14,11 @@ use Rattle.c_steps.specs.declared.next.Next.TheVariants as next
 use Rattle.c_steps.specs.Advancing.{IsKept as IsAfterAdvance, IsLeft, IsNamed}
 use Rattle.c_steps.specs.ControlView.{ControlView, moment_at, outcome_at, task_at}
 use Rattle.c_steps.specs.Trying.{HaveStepsMade, IsStepMade, IsUntouched}
-use Rattle.omp_model.specs.State.{Task as Seen, no_task}
+use Rattle.omp_model.specs.State.{Task as Seen, no_task, task_with}
 use Rattle.omp_board.specs.declared.task.Task.{Task}
-use Rattle.omp_board.specs.Keeping.{kept_nothing, seen_task, seen_tasks}
-use Rattle.omp_board.specs.Tasks.{HasSteppedIn, HaveSteppedIn, IsNamedIn, IsStill, TaskRoom, TasksView, code_in, code_of, gone_in, moment_in, one_step_less, room_after, task_in, with_code_in, with_task_in}
+use Rattle.omp_board.specs.Keeping.{control_at, kept_nothing, seen_task, seen_tasks}
+use Rattle.omp_board.specs.declared.tasks.TaskRoom.{TaskRoom}
+use Rattle.omp_board.specs.Tasks.{HasSteppedIn, HaveSteppedIn, IsNamedIn, IsStill, TasksView, code_in, code_of, gone_in, moment_in, one_step_less, room_after, task_in, with_code_in, with_one_more, with_task_in}
 
 -- what the parts are seen as
 abbrev pub seen : TreeView → List Task → Store → TaskRoom → TasksView
@@ -25,6 +26,17 @@ seen program tasks store room = record { program = program; tasks = seen_tasks p
 
 pub seen_at : (program : TreeView) (tasks : List Task) (k : ℕ) → slice_index_or (seen_tasks program tasks) k no_task ≡ seen_task program (slice_index_or tasks k kept_nothing)
 seen_at program tasks k = get_or-map (seen_task program) tasks k kept_nothing
+
+module _ (program : TreeView) (tasks : List Task) (store : Store) (room : TaskRoom) (view : TasksView) (is : seen program tasks store room ≡ view) where
+  pub code_at : (k : ℕ) → code_of program (control_at tasks k) ≡ code_in view k
+  code_at k = sym (ap (λ (task : Seen). task.code) (seen_at program tasks k)) ∙ ap (λ (view : TasksView). code_in view k) is
+
+  -- one more task is made
+  pub one_more_seen : (task : Task) (now : List Task) (code : Code) → now ≡ tasks ++ task ∷ [] → seen_task program task ≡ task_with code → seen program now store (record room { tasks = 0 }) ≡ with_one_more view code
+  one_more_seen task now code pushed made =
+      ap (λ (all : List Seen). record (seen program tasks store room) { tasks = all; room = record room { tasks = 0 } })
+      (ap (seen_tasks program) pushed ∙ map_push (seen_task program) tasks task ∙ ap (λ (last : Seen). seen_tasks program tasks ++ last ∷ []) made)
+      ∙ ap (λ (view : TasksView). with_one_more view code) is
 
 -- no step was made, so that the control is left alone
 left_by : (program : TreeView) (sight : View) (of : Next) (old : ControlView) (before : Store) (new : ControlView) (after : Store) → IsStill of → IsAfterAdvance program sight of old before new after → IsLeft program sight old before new after

@@ -4,10 +4,11 @@ use Rattle.std.specs.List.{All}
 use Rattle.c_syntax.specs.language.Numbered.{TreeView}
 use Rattle.c_model.specs.Begin.{main_task}
 use Rattle.c_steps.specs.ControlView.{ControlView, task_at}
-use Rattle.c_steps.specs.OfProgram.{IsMadeFor}
+use Rattle.c_steps.specs.OfProgram.{IsBlank, IsMadeFor}
 use Rattle.omp_model.specs.State.{Task as Seen}
 use Rattle.omp_board.specs.declared.task.Task.{Task}
-use Rattle.omp_board.specs.Tasks.{TaskRoom, code_of}
+use Rattle.omp_board.specs.declared.tasks.TaskRoom.{TaskRoom}
+use Rattle.omp_board.specs.Tasks.{code_of}
 
 -- what a task that is kept is seen as
 abbrev pub seen_task : TreeView → Task → Seen
@@ -33,6 +34,11 @@ control_at tasks k = (slice_index_or tasks k kept_nothing).control
 
 abbrev pub IsOfProgram : TreeView → Task → Type 0
 IsOfProgram program task = IfSome task.control (IsMadeFor program)
+
+-- what is read where a task has no code
+pub record IsNoCode (program : TreeView) (held : ControlView) : Type 0 where
+  pub made : IsMadeFor program held
+  pub blank : IsBlank held
 
 -- the control has the room that is said
 pub record HasRoomIn (room : TaskRoom) (held : ControlView) : Type 0 where

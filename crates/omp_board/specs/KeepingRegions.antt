@@ -3,7 +3,8 @@ use Rattle.std.specs.Prelude.{ℕ, ◌+◌, ◌<◌, ◌≤◌, ◌^◌, nat_lt,
 use Rattle.team_parts.specs.Team.{TeamView}
 use Rattle.omp_model.specs.State.{Region as Seen, fresh_head}
 use Rattle.omp_board.specs.declared.region.Region.{Region}
-use Rattle.omp_board.specs.Regions.{IsFreshTeam, RegionRoom, seen_team}
+use Rattle.omp_board.specs.declared.regions.RegionRoom.{RegionRoom}
+use Rattle.omp_board.specs.Regions.{IsFreshTeam, seen_team}
 
 abbrev pub seen_region : Region → Seen
 seen_region region = record { head = region.head; team = seen_team region.team }

@@ -5,13 +5,8 @@ use Rattle.team_parts.specs.declared.meeting.Mismatch.{Mismatch}
 use Rattle.team_parts.specs.declared.meeting.TheConstants.{TEAM_LIMIT}
 use Rattle.team_parts.specs.Team.{TeamView, after_chunk, after_meeting, after_section, answer_to_meet, new_member, next_chunk, next_section}
 use Rattle.omp_model.specs.declared.parts.RegionHead.{RegionHead}
+use Rattle.omp_board.specs.declared.regions.RegionRoom.{RegionRoom}
 use Rattle.omp_model.specs.State.{Region, fresh_region, fresh_team, no_region}
-
--- Room for one meeting of the team of this region, and for so many more regions
-pub record RegionRoom : Type 0 where
-  pub region : ℕ
-  pub meetings : ℕ
-  pub regions : ℕ
 
 -- the regions by identity, and room
 pub record RegionsView : Type 0 where

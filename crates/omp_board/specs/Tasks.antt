@@ -21,15 +21,8 @@ use Rattle.c_steps.specs.declared.next.Next.{Next}
 use Rattle.c_steps.specs.declared.next.Next.TheVariants as next
 use Rattle.omp_model.specs.declared.limits.TheConstants.{STEPS_OF_A_TURN}
 use Rattle.omp_model.specs.State.{Task, no_task, task_with}
+use Rattle.omp_board.specs.declared.tasks.TaskRoom.{TaskRoom}
 use Rattle.omp_board.specs.Codes.{store_code, task_code}
-
--- Room for a turn: of the code of this task for so many silent steps, answers and looks at what stands next, and for so many events; and for so
--- many more tasks.
-pub record TaskRoom : Type 0 where
-  pub task : ℕ
-  pub steps : ℕ
-  pub passes : ℕ
-  pub tasks : ℕ
 
 abbrev room_code : Coded TaskRoom
 room_code =

@@ -1,12 +1,12 @@
 //! The code of the tasks that are kept.
 
-ghost use Rattle.std.specs.Prelude.{◌≡◌, ◌<◌, ◌≤◌, IfSome, OnErr, OnOk, length, slice_get};
+ghost use Rattle.std.specs.Prelude.{◌≡◌, ◌<◌, ◌≤◌, [], IfOk, IfSome, OnErr, OnOk, length, slice_get};
 ghost use Rattle.std.specs.List.{All};
 ghost use Rattle.std.specs.Option.{option_copied};
 ghost use Rattle.c_steps.specs.Beginning.{IsCreation};
 ghost use Rattle.c_steps.specs.OfProgram.{IsMadeFor};
 ghost use Rattle.omp_model.specs.EventEffects.{member_code};
-ghost use Rattle.omp_board.specs.Keeping.{HasRoomIn, IsOfProgram, control_at, seen_tasks};
+ghost use Rattle.omp_board.specs.Keeping.{HasRoomIn, IsNoCode, IsOfProgram, control_at, seen_tasks};
 ghost use Rattle.omp_board.specs.Tasks.{HasCells, code_of, created_by, moment_of, turn_room};
 
 use crate::task::Task;
@@ -20,6 +20,28 @@ pub(crate) const MEMBER_0: View = View {
     team: 1,
     max: 1,
 };
+
+/// The most controls without code that are kept for tasks to come.
+const BLANKS: usize = 32;
+
+/// Controls without code.
+#[derive(Drop)]
+pub struct Blanks {
+    /// What is read where a task has no code.
+    pub none: Control,
+    /// Those for tasks to come.
+    pub spare: Vec<Control>,
+}
+
+/// The controls without code that a run begins with: none is kept for a task to come.
+pub(crate) fn first_blanks(alloc: Global, code: &Code) -> Result<Blanks, AllocError>
+    ensures none { IfOk result (λ blanks. IsNoCode code.now blanks.none) }
+    ensures spare { IfOk result (λ blanks. blanks.spare.items ≡ []) }
+{
+    let none = Control::blank(alloc, code)?;
+    let spare = Vec::with_capacity(alloc, BLANKS)?;
+    Ok(Blanks { none, spare })
+}
 
 /// What is left of the task's code, if it has some.
 #[inline(always)]
@@ -46,6 +68,28 @@ pub(crate) fn reserve_blank(
     let blank = Control::blank(alloc, code)?;
     blanks.push(blank)?;
     Ok(())
+}
+
+/// The control that was kept last for a task to come.
+fn taken(code: &Code, blanks: &mut Vec<Control>) -> Control
+    requires made { All (IsMadeFor code.now) blanks.old.items }
+    requires some { 0 < length blanks.old.items }
+    ensures made { IsMadeFor code.now result }
+    ensures blanks { All (IsMadeFor code.now) blanks.new.items }
+{
+    blanks.pop().unwrap()
+}
+
+/// A control without code is kept for a task to come, or is given back where there are many.
+pub(crate) fn keep_blank(code: &Code, blanks: &mut Vec<Control>, control: Control)
+    requires made { IsMadeFor code.now control }
+    requires blanks { All (IsMadeFor code.now) blanks.old.items }
+    ensures blanks { All (IsMadeFor code.now) blanks.new.items }
+    ensures more { length blanks.old.items ≤ length blanks.new.items }
+{
+    if blanks.len() < blanks.capacity() {
+        blanks.push(control).unwrap();
+    }
 }
 
 /// Makes room for a turn in the task's code, if it has some. That there is no such task is want of memory too.
@@ -84,7 +128,7 @@ pub(crate) fn begin_member(
     let parent = control_of(list, parent)?;
     match parent.upcoming(code, MEMBER_0) {
         Upcoming::RegionEnd => {
-            let mut member = blanks.pop()?;
+            let mut member = taken(code, blanks);
             parent.member(code, &mut member);
             Some(member)
         }
@@ -111,7 +155,7 @@ pub(crate) fn begin_explicit(
     ensures blanks { All (IsMadeFor code.now) blanks.new.items }
 {
     let creator = control_of(list, creator)?;
-    let mut task = blanks.pop()?;
+    let mut task = taken(code, blanks);
     creator.task(code, cells, &mut task);
     Some(task)
 }

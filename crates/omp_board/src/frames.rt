@@ -14,17 +14,6 @@ const FRAMES_OF_A_THREAD: u32 = 65536;
 /// How far the number of a frame inside the runtime is from that of its task's code.
 const INSIDE: u32 = 32768;
 
-/// Whether the event starts the current task of its thread.
-#[inline(always)]
-fn starts_task(event: Event) -> bool
-    ensures { result ≡ frames.starts_task event }
-{
-    matches!(
-        event,
-        Event::InitialTaskBegin | Event::MemberBegin { .. } | Event::TaskBegin { .. }
-    )
-}
-
 /// Whether a started task of the owner, with so many below it, is inside the runtime, at the event of the thread.
 #[inline(always)]
 fn is_inside(board: &Board, thread: u8, event: Event, owner: u8, task: u32, below: usize) -> bool
@@ -33,7 +22,11 @@ fn is_inside(board: &Board, thread: u8, event: Event, owner: u8, task: u32, belo
 {
     below + 1 != board.depth(owner)
         || board.tasks.forked(task) != 0
-        || (owner == thread && !starts_task(event))
+        || (owner == thread
+            && !matches!(
+                event,
+                Event::InitialTaskBegin | Event::MemberBegin { .. } | Event::TaskBegin { .. }
+            ))
 }
 
 /// The number of the place on the owner's stack with so many tasks below it.

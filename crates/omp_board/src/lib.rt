@@ -17,7 +17,7 @@
 //! and a lock.
 //!
 //! The modules: `thread`, `task` with `tasks` and `controls`, and `region` with `regions` and `head` keep the parts; `board` puts them together,
-//! with a file for each kind of change (`threads`, `tasks`, `words`) and for each step of a turn (`arrival`, `silent`, `coming`
+//! with a file each for what changes of threads, tasks and data words (`threads`, `tasks`, `words`) and for each step of a turn (`arrival`, `silent`, `coming`
 //! with `effects` and `meeting`, `returning`); `call`, `snapshot`, `levels` and `frames` tell it. In `specs/` `Board` says what a board is
 //! seen as and what a turn's calls answer, `Answering` what is answered where a task's code asks, `Events` what the Go of an event of a task's code
 //! requires and changes, `Tasks` and `Regions` what the parts are seen as; `Threads`, `Keeping` and `KeepingRegions` how the parts are kept, `Levels`

@@ -13,13 +13,20 @@ use std::alloc::{AllocError, Global};
 use std::marker::Model;
 use team_parts::{Meeting, Mismatch, TEAM_LIMIT, Team};
 
-/// For a meeting of which region's team there is room, and for how many more regions.
+/// Room for a turn: for so many meetings of the team of this region, and for so many more regions.
 #[derive(Clone, Copy)]
-struct Room {
-    region: u32,
-    meetings: usize,
-    regions: usize,
+pub struct RegionRoom {
+    pub region: u32,
+    pub meetings: usize,
+    pub regions: usize,
 }
+
+/// No room, as before the first turn.
+const NO_ROOM: RegionRoom = RegionRoom {
+    region: 0,
+    meetings: 0,
+    regions: 0,
+};
 
 /// The parallel regions of a run. Contracts see them by identity, at 0 one without members, and room.
 ///
@@ -33,7 +40,7 @@ pub struct Regions {
     /// The team of the next region, with room for a meeting.
     fresh: Option<Team>,
     /// What there is room for.
-    room: Room,
+    room: RegionRoom,
 }
 
 impl Model for Regions {
@@ -45,11 +52,10 @@ impl Model for Regions {
 
     ghost view = { λ all. record {
       regions = seen_regions all.list.items;
-      room = record { region = all.room.region; meetings = all.room.meetings; regions = all.room.regions };
+      room = all.room;
     } };
 
-    ghost invariant = { λ all. IsKept all.list.items (vec_capacity all.list) all.fresh
-        (record { region = all.room.region; meetings = all.room.meetings; regions = all.room.regions }) };
+    ghost invariant = { λ all. IsKept all.list.items (vec_capacity all.list) all.fresh all.room };
 }
 
 impl Regions {
@@ -70,11 +76,7 @@ impl Regions {
             alloc,
             list,
             fresh: None,
-            room: Room {
-                region: 0,
-                meetings: 0,
-                regions: 0,
-            },
+            room: NO_ROOM,
         })
     }
 
@@ -93,7 +95,7 @@ impl Regions {
         if let Some(kept) = self.list.get_mut(region as usize) {
             kept.reserve()?;
         }
-        self.room = Room {
+        self.room = RegionRoom {
             region,
             meetings: 1,
             regions: 1,

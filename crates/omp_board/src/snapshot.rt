@@ -27,17 +27,6 @@ fn work_state(board: &Board, thread: u8) -> u16
     }
 }
 
-/// The state of a member that leaves its region.
-fn left_state(board: &Board, thread: u8, region: u32) -> u16
-    ensures { result ≡ snapshots.left_state board.now.world thread region }
-{
-    if thread != 0 && board.is_outermost(region) {
-        IDLE
-    } else {
-        OVERHEAD
-    }
-}
-
 /// The state of a thread that waits at a barrier or taskwait.
 fn wait_state(kind: SyncKind) -> u16
     ensures { result ≡ snapshots.wait_state kind }
@@ -47,17 +36,6 @@ fn wait_state(kind: SyncKind) -> u16
         SyncKind::Taskwait => WAIT_TASKWAIT,
         SyncKind::Worksharing => WAIT_BARRIER_IMPLICIT_WORKSHARE,
         SyncKind::Parallel => WAIT_BARRIER_IMPLICIT_PARALLEL,
-    }
-}
-
-/// The state of a thread that asks for a lock or critical.
-fn acquire_state(board: &Board, thread: u8, kind: MutexKind) -> u16
-    ensures { result ≡ snapshots.acquire_state board.now.world thread kind }
-{
-    match kind {
-        MutexKind::Lock => WAIT_LOCK,
-        MutexKind::TestLock => work_state(board, thread),
-        MutexKind::Critical => WAIT_CRITICAL,
     }
 }
 
@@ -88,7 +66,8 @@ fn state_of(board: &Board, thread: u8, event: Event) -> u16
         | Event::InitialTaskEnd
         | Event::ParallelBegin { .. }
         | Event::ParallelEnd { .. } => OVERHEAD,
-        Event::MemberEnd { region, .. } => left_state(board, thread, region),
+        Event::MemberEnd { region, .. } if thread != 0 && board.is_outermost(region) => IDLE,
+        Event::MemberEnd { .. } => OVERHEAD,
         Event::TaskEnd { .. } => resumed_state(board, thread),
         Event::Sync {
             kind,
@@ -96,7 +75,11 @@ fn state_of(board: &Board, thread: u8, event: Event) -> u16
             ..
         } => wait_state(kind),
         Event::Sync { .. } => OVERHEAD,
-        Event::MutexAcquire { kind, .. } => acquire_state(board, thread, kind),
+        Event::MutexAcquire { kind, .. } => match kind {
+            MutexKind::Lock => WAIT_LOCK,
+            MutexKind::TestLock => work_state(board, thread),
+            MutexKind::Critical => WAIT_CRITICAL,
+        },
         _ => work_state(board, thread),
     }
 }

@@ -20,11 +20,12 @@ ghost use Rattle.c_steps.specs.Passing.{IsEventOfNext};
 ghost use Rattle.c_steps.specs.Ready.{FitsProgram};
 ghost use Rattle.c_steps.specs.Scopes.{HasNumbers};
 ghost use Rattle.omp_model.specs.EventEffects.{member_code};
-ghost use Rattle.omp_board.specs.Keeping.{AreFirst};
+ghost use Rattle.omp_board.specs.Keeping.{AreFirst, IsNoCode};
 ghost use Rattle.omp_board.specs.Tasks.{HasCells, HasPass, HasSteps, HasStepsFor, HaveSteppedIn, IsNamedIn, IsStill, code_in, created_by, first_tasks, gone_in, moment_in, one_pass_less, one_step_less, room_after, task_in, turn_room, with_code_in, with_one_more, with_task_in};
 
 use crate::controls::{
-    MEMBER_0, begin_explicit, begin_member, control_of, reserve_blank, reserve_code,
+    Blanks, MEMBER_0, begin_explicit, begin_member, control_of, first_blanks, keep_blank,
+    reserve_blank, reserve_code,
 };
 use crate::task::{Task, task_with};
 use c_check::Program;
@@ -37,24 +38,30 @@ use std::marker::Model;
 /// How many silent steps, answers and looks there is room for in a turn.
 const STEPS_AHEAD: u32 = STEPS_OF_A_TURN + 2;
 
-/// The most controls without code that are kept for tasks to come.
-const BLANKS: usize = 32;
-
-/// Of which task's code there is room for how much, and for how many more tasks.
+/// Room for a turn: of the code of this task for so many silent steps, answers and looks at what stands next, and for so many events; and for so many
+/// more tasks.
 #[derive(Clone, Copy)]
-struct Room {
-    task: u32,
-    steps: u32,
-    passes: u32,
-    tasks: usize,
+pub struct TaskRoom {
+    pub task: u32,
+    pub steps: u32,
+    pub passes: u32,
+    pub tasks: usize,
 }
+
+/// No room, as before the first turn.
+const NO_ROOM: TaskRoom = TaskRoom {
+    task: 0,
+    steps: 0,
+    passes: 0,
+    tasks: 0,
+};
 
 /// What the tasks of a run begin with, beside the program.
 #[derive(Drop)]
 struct First {
     cells: Cells,
     list: Vec<Task>,
-    blanks: Vec<Control>,
+    blanks: Blanks,
 }
 
 /// The tasks of a run with their code, and the cells and the text that all code shares. Contracts see the program, the tasks by identity, at 0 one
@@ -71,16 +78,16 @@ pub struct Tasks {
     cells: Cells,
     /// The tasks, by identity. At 0 stands none.
     list: Vec<Task>,
-    /// Controls for tasks to come.
-    blanks: Vec<Control>,
+    /// Controls without code.
+    blanks: Blanks,
     /// What there is room for.
-    room: Room,
+    room: TaskRoom,
 }
 
 impl Model for Tasks {
     ghost use Rattle.std.specs.Prelude.{vec_capacity};
     ghost use Rattle.omp_board.specs.Tasks.{TasksView, tasks_code};
-    ghost use Rattle.omp_board.specs.Keeping.{IsKept, seen_tasks};
+    ghost use Rattle.omp_board.specs.Keeping.{IsKept, IsNoCode, seen_tasks};
 
     ghost Value = { TasksView };
 
@@ -90,21 +97,11 @@ impl Model for Tasks {
       program = tasks.code;
       tasks = seen_tasks tasks.code tasks.list.items;
       store = tasks.cells;
-      room = record {
-        task = tasks.room.task;
-        steps = tasks.room.steps;
-        passes = tasks.room.passes;
-        tasks = tasks.room.tasks;
-      };
+      room = tasks.room;
     } };
 
-    ghost invariant = { λ tasks. IsKept tasks.code tasks.list.items (vec_capacity tasks.list) tasks.blanks.items
-        (record {
-          task = tasks.room.task;
-          steps = tasks.room.steps;
-          passes = tasks.room.passes;
-          tasks = tasks.room.tasks;
-        }) };
+    ghost invariant = { λ tasks. IsKept tasks.code tasks.list.items (vec_capacity tasks.list) tasks.blanks.spare.items
+        tasks.room × IsNoCode tasks.code tasks.blanks.none };
 }
 
 impl Tasks {
@@ -124,12 +121,7 @@ impl Tasks {
             cells,
             list,
             blanks,
-            room: Room {
-                task: 0,
-                steps: 0,
-                passes: 0,
-                tasks: 0,
-            },
+            room: NO_ROOM,
         })
     }
 
@@ -144,9 +136,9 @@ impl Tasks {
             return Err(AllocError);
         }
         self.list.reserve(1)?;
-        reserve_blank(self.alloc, &self.code, &mut self.blanks)?;
+        reserve_blank(self.alloc, &self.code, &mut self.blanks.spare)?;
         reserve_code(&self.code, &mut self.list, task)?;
-        self.room = Room {
+        self.room = TaskRoom {
             task,
             steps: STEPS_AHEAD,
             passes: 1,
@@ -212,100 +204,15 @@ impl Tasks {
         kept.word = word;
     }
 
-    /// What comes next in the task's code, as a thread that sees this of its team executes it.
-    #[tactic(auto, unfolding(c_model::specs::Step::items_from_next))]
-    #[inline(always)]
-    pub fn upcoming(&self, task: u32, view: View) -> Upcoming
-        ensures { result ≡ upcoming.upcoming_of view (code_in self.now task) }
-    {
-        match self.code_of(task) {
-            Some((code, control)) => control.upcoming(code, view),
-            None => Upcoming::End,
-        }
-    }
-
-    /// What comes next in the task's code, whatever a thread sees of its team, where that can be told at once.
-    #[tactic(auto, unfolding(c_model::specs::Step::items_from_next))]
-    #[inline(always)]
-    pub fn upcoming_at_once(&self, task: u32) -> Option<Upcoming>
-        ensures { (view : SeenView) → IfSome result (λ coming. upcoming.upcoming_of view (code_in self.now task) ≡
-            coming) }
-    {
-        match self.code_of(task) {
-            Some((_, control)) => control.upcoming_at_once(),
-            None => Some(Upcoming::End),
-        }
-    }
-
     /// What stands first in the task's code.
     #[inline(always)]
-    #[tactic(auto, using(c_steps::proofs::Giving::nothing_past))]
     pub fn standing(&self, task: u32) -> Upcoming
         ensures { result ≡ upcoming.upcoming_among (code_in self.now task).todo }
     {
-        match self.upcoming_at_once(task) {
+        let (code, control) = self.code_of(task);
+        match control.upcoming_at_once() {
             Some(upcoming) => upcoming,
-            None => self.upcoming(task, MEMBER_0),
-        }
-    }
-
-    /// Whether the task is in a region of a worksharing construct.
-    pub fn is_in_work(&self, task: u32) -> bool
-        ensures { result ≡ upcoming.is_in_work (code_in self.now task) }
-    {
-        match self.code_of(task) {
-            Some((code, control)) => control.is_in_work(code),
-            None => false,
-        }
-    }
-
-    /// Whether the task is in a region of a worksharing, masked or critical construct.
-    pub fn is_in_exclusive(&self, task: u32) -> bool
-        ensures { result ≡ upcoming.is_in_exclusive (code_in self.now task) }
-    {
-        match self.code_of(task) {
-            Some((code, control)) => control.is_in_exclusive(code),
-            None => false,
-        }
-    }
-
-    /// Whether the task is in a region of the critical with this wait identifier.
-    pub fn is_in_critical(&self, task: u32, wait_id: u32) -> bool
-        ensures { result ≡ upcoming.is_in_critical (code_in self.now task) wait_id }
-    {
-        match self.code_of(task) {
-            Some((code, control)) => control.is_in_critical(code, wait_id),
-            None => false,
-        }
-    }
-
-    /// What the last call in the task's code gave, if it gave something.
-    pub fn returned(&self, task: u32) -> Option<i32>
-        ensures { result ≡ (code_in self.now task).returned }
-    {
-        match self.code_of(task) {
-            Some((_, control)) => control.returned(),
-            None => None,
-        }
-    }
-
-    /// How many iterations the loop has that asks for a chunk next, or 0.
-    pub fn asked_count(&self, task: u32) -> u64
-        ensures { result ≡ count_asked (code_in self.now task).todo }
-    {
-        match self.code_of(task) {
-            Some((code, control)) => control.asked_count(code),
-            None => 0,
-        }
-    }
-
-    /// How many sections the construct has that asks for one next, or 0.
-    pub fn asked_sections(&self, task: u32) -> u32
-        ensures { result ≡ sections_asked (code_in self.now task).todo }
-    {
-        match self.code_of(task) {
-            Some((code, control)) => control.asked_sections(code),
-            None => 0,
+            None => control.upcoming(code, MEMBER_0),
         }
     }
 
@@ -403,7 +310,7 @@ impl Tasks {
         ensures { self.new ≡ with_one_more self.old (member_code (code_in self.old parent)) }
     {
         self.room.tasks = 0;
-        let member = begin_member(&self.code, &self.list, &mut self.blanks, parent);
+        let member = begin_member(&self.code, &self.list, &mut self.blanks.spare, parent);
         self.list.push(task_with(member)).unwrap();
     }
 
@@ -425,7 +332,7 @@ impl Tasks {
             &self.code,
             &mut self.cells,
             &self.list,
-            &mut self.blanks,
+            &mut self.blanks.spare,
             creator,
         );
         self.list.push(task_with(task)).unwrap();
@@ -442,21 +349,20 @@ impl Tasks {
             return;
         };
         control.clear(&self.code);
-        if self.blanks.len() < self.blanks.capacity() {
-            self.blanks.push(control).unwrap();
-        }
+        keep_blank(&self.code, &mut self.blanks.spare, control);
     }
 
-    /// The program, and what is left of the task's code, if it has some.
+    /// The program, and what is left of the task's code, but for the names in scope.
     #[inline(always)]
-    fn code_of(&self, task: u32) -> Option<(&Code, &Control)>
-        ensures code { IfSome result (λ found. task_at found.0.now found.1.now ≡ code_in self.now task) }
-        ensures made { IfSome result (λ found. IsMadeFor found.0.now found.1.now) }
-        ensures none { IfNone result (code_in self.now task ≡ blank_task) }
+    pub fn code_of(&self, task: u32) -> (&Code, &Control)
+        ensures made { IsMadeFor result.0.now result.1.now }
+        ensures todo { (task_at result.0.now result.1.now).todo ≡ (code_in self.now task).todo }
+        ensures calls { (task_at result.0.now result.1.now).calls ≡ (code_in self.now task).calls }
+        ensures returned { (task_at result.0.now result.1.now).returned ≡ (code_in self.now task).returned }
     {
         match control_of(&self.list, task) {
-            Some(control) => Some((&self.code, control)),
-            None => None,
+            Some(control) => (&self.code, control),
+            None => (&self.code, &self.blanks.none),
         }
     }
 
@@ -480,11 +386,12 @@ impl Tasks {
 fn first_parts(alloc: Global, code: &Code) -> Result<First, AllocError>
     ensures cells { IfOk result (λ first. first.cells ≡ first_store code.now) }
     ensures list { IfOk result (λ first. AreFirst code.now first.list.items) }
-    ensures blanks { IfOk result (λ first. first.blanks.items ≡ []) }
+    ensures none { IfOk result (λ first. IsNoCode code.now first.blanks.none) }
+    ensures spare { IfOk result (λ first. first.blanks.spare.items ≡ []) }
 {
     let cells = Cells::new(alloc, code)?;
     let list = first_list(alloc, code)?;
-    let blanks = Vec::with_capacity(alloc, BLANKS)?;
+    let blanks = first_blanks(alloc, code)?;
     Ok(First {
         cells,
         list,

@@ -15,14 +15,11 @@ ghost use Rattle.c_steps.specs.Steps.{Advances, CanStep, Tells};
 use crate::cells::Cells;
 use crate::code::Code;
 use crate::control::Control;
-use crate::control::events::{
-    acquire, ask_lock, end_masked, end_parallel, end_work, next_chunk, next_section, release,
-    synchronise,
-};
+use crate::control::events::{asks, event, synchronises};
 use crate::item::Item;
 use crate::next::{Next, made};
 use crate::node::Node;
-use c_model::View;
+use c_model::{Ask, MutexKind, Point, View};
 
 impl Control {
     /// Makes one silent step, or says what stands next. At anything but a silent step the cells are as they were, and the control stands for
@@ -78,14 +75,21 @@ impl Control {
             }
             Item::Return(number) => made(self.returns(code, cells, view, number)),
             Item::FallOff => made(self.returns(code, cells, view, 0)),
-            Item::Forked(number) => end_parallel(Node { code, number }),
+            Item::Forked(number) => {
+                let node = Node { code, number };
+                let codeptr = node.place();
+                event(node, Point::ParallelEnd { codeptr })
+            }
             Item::Inside(number) => self.begin_inside(cells, view, Node { code, number }),
             Item::MakeCells(number) => self.make_cells(cells, view, Node { code, number }),
-            Item::NextChunk(shared) => next_chunk(shared),
+            Item::NextChunk(shared) => {
+                let number = shared.construct;
+                asks(Node { code, number }, Ask::Chunk)
+            }
             Item::Iterations { shared, at, upto } => {
                 self.begin_iteration(code, cells, view, shared, at, upto)
             }
-            Item::NextSection { node, .. } => next_section(node),
+            Item::NextSection { node, .. } => asks(Node { code, number: node }, Ask::Section),
             Item::Combine {
                 operator,
                 name,
@@ -96,14 +100,45 @@ impl Control {
                 kind,
                 count,
                 ..
-            } => end_work(Node { code, number: node }, kind, count),
-            Item::EndMasked(number) => end_masked(Node { code, number }),
-            Item::Sync { node, kind, stage } => {
-                synchronise(Node { code, number: node }, kind, stage)
+            } => {
+                let node = Node { code, number: node };
+                let codeptr = node.place();
+                let point = Point::WorkEnd {
+                    codeptr,
+                    kind,
+                    count,
+                };
+                event(node, point)
             }
-            Item::Acquire { node, kind, id } => acquire(Node { code, number: node }, kind, id),
-            Item::Release { node, id } => release(Node { code, number: node }, id),
-            Item::TestLock { node, id, .. } => ask_lock(node, id),
+            Item::EndMasked(number) => {
+                let node = Node { code, number };
+                let codeptr = node.place();
+                event(node, Point::MaskedEnd { codeptr })
+            }
+            Item::Sync { node, kind, stage } => {
+                synchronises(Node { code, number: node }, kind, stage)
+            }
+            Item::Acquire { node, kind, id } => {
+                let node = Node { code, number: node };
+                let point = Point::MutexAcquired {
+                    codeptr: node.place(),
+                    wait_id: id,
+                    kind,
+                };
+                event(node, point)
+            }
+            Item::Release { node, id } => {
+                let node = Node { code, number: node };
+                let point = Point::MutexReleased {
+                    codeptr: node.place(),
+                    wait_id: id,
+                    kind: MutexKind::Critical,
+                };
+                event(node, point)
+            }
+            Item::TestLock { node, id, .. } => {
+                asks(Node { code, number: node }, Ask::LockFree(id))
+            }
             Item::Tested(to) => made(self.end_test(code, cells, view, to)),
         }
     }

@@ -104,7 +104,8 @@ impl Control {
         ensures memory { OnErr result (self.new ≡ self.old) }
         ensures made { IsMadeFor code.now self.new }
     {
-        let names = self.names_of_steps()?;
+        let names = self.step_names.checked_mul(STEPS).ok_or(AllocError)?;
+        let names = names.checked_add(1).ok_or(AllocError)?;
         self.stack.reserve(3 * STEPS + 3)?;
         self.names.reserve(names)?;
         self.spare = STEPS;
@@ -112,13 +113,5 @@ impl Control {
         self.frames_now = 0;
         self.names_now = 0;
         Ok(())
-    }
-
-    /// How many names the silent steps bring for which room is made, and the event. More than a `usize` counts are want of memory.
-    fn names_of_steps(&self) -> Result<usize, AllocError>
-        ensures { IfOk result (λ names. names ≡ self.now.step_names * STEPS + 1) }
-    {
-        let names = self.step_names.checked_mul(STEPS).ok_or(AllocError)?;
-        names.checked_add(1).ok_or(AllocError)
     }
 }

@@ -2,7 +2,6 @@
 
 ghost use Rattle.std.specs.Prelude.{◌≡◌, ◌≤◌, ◌+◌, [], ◌∷◌, length, replicate, pos, true, IfSome};
 ghost use Rattle.c_syntax.specs.language.Tree.{kind_of, name_of};
-ghost use Rattle.c_check.specs.Loops.{child_at};
 ghost use Rattle.c_check.specs.Seen.{slot_of_name};
 ghost use Rattle.c_model.specs.declared.limits.TheConstants.{CELL_LIMIT};
 ghost use Rattle.c_model.specs.StepOutcomes.{binds};
@@ -34,26 +33,19 @@ impl Control {
             node.entry view result self.old cells.old self.new cells.new }
     {
         match node.kind() {
-            NodeKind::LocalSet => self.set_local(cells, view, node),
+            NodeKind::LocalSet => {
+                let right = node.child(0);
+                match node.code.kind(right) {
+                    NodeKind::Call | NodeKind::TestLock => self.set_to_call(cells, view, node),
+                    _ => self.set_to_value(cells, view, node, right, None),
+                }
+            }
             NodeKind::LocalArray => {
                 let size = node.code.number(Some(node.number)) as u32;
                 self.declare_cells(cells, view, node, size)
             }
             NodeKind::Name | NodeKind::LocalVar => self.declare_cells(cells, view, node, 1),
             _ => unreachable!(),
-        }
-    }
-
-    /// A declarator that is set to a value or a call.
-    fn set_local(&mut self, cells: &mut Cells, view: View, node: Node) -> Made
-        requires { CanStep node.code.now view self.old }
-        ensures { MakesBy (λ here tree. statements.begin_local_set (kind_of (child_at tree 0)) here tree)
-            node.entry view result self.old cells.old self.new cells.new }
-    {
-        let right = node.child(0);
-        match node.code.kind(right) {
-            NodeKind::Call | NodeKind::TestLock => self.set_to_call(cells, view, node),
-            _ => self.set_to_value(cells, view, node, right, None),
         }
     }
 

@@ -1,6 +1,6 @@
 //! A call begins: its parameters come into scope, with the numbers of its arguments, and the function's body stands next.
 
-ghost use Rattle.std.specs.Prelude.{◌≡◌, ◌+◌, ◌<◌, ◌≤◌, drop, length, take, IfSome};
+ghost use Rattle.std.specs.Prelude.{◌≡◌, ◌+◌, ◌<◌, ◌≤◌, length, IfSome};
 ghost use Rattle.c_syntax.specs.language.Numbered.{tree_at};
 ghost use Rattle.c_model.specs.declared.limits.TheConstants.{CALL_LIMIT, CELL_LIMIT};
 ghost use Rattle.c_model.specs.Calls.{bound_in, open_call, with_parameters};
@@ -8,7 +8,7 @@ ghost use Rattle.c_model.specs.Parts.{parts};
 ghost use Rattle.c_model.specs.Program.{parameters_of};
 ghost use Rattle.c_model.specs.Value.{all_values};
 ghost use Rattle.c_steps.specs.Arguments.{values_in};
-ghost use Rattle.c_steps.specs.Entering.{BindsParameter, HasMore, HaveNoTrap, IsCall, IsCaller, IsNextArgument, arguments_from, bound_at, caller_scope, moment_entered};
+ghost use Rattle.c_steps.specs.Entering.{BindsParameter, HasMore, HaveNoTrap, IsCall, IsCaller, arguments_from, bound_at, caller_scope, moment_entered};
 ghost use Rattle.c_steps.specs.ControlView.{env_at, here_at, moment_at, scope_in};
 ghost use Rattle.c_steps.specs.Moves.{bound_if, env_with};
 ghost use Rattle.c_steps.specs.Nodes.{IsPart, part_at};
@@ -22,7 +22,6 @@ use crate::cells::Cells;
 use crate::code::Code;
 use crate::control::Control;
 use crate::control::calls::Call;
-use crate::evaluate::Argument;
 use crate::item::Item;
 use crate::scope::Scope;
 use c_model::{Entry, View};
@@ -155,7 +154,9 @@ impl Control {
         ensures { BindsParameter code.now view caller (part_at code.now.trees call)
             (tree_at code.now.trees parameter) place result self.old self.new cells.old cells.new }
     {
-        let argument = self.argument(code, cells, view, caller, call, place);
+        let argument = self
+            .caller_scope(code, cells, view, caller)
+            .argument(call, place);
         let entry = Entry {
             name: code.name(Some(parameter)),
             first: cells.count() as u32,
@@ -165,28 +166,6 @@ impl Control {
         self.bind(entry);
         cells.push(argument.number);
         argument.next
-    }
-
-    /// The argument of a call at a place.
-    fn argument(
-        &self,
-        code: &Code,
-        cells: &Cells,
-        view: View,
-        caller: Caller,
-        call: Option<u32>,
-        place: u32,
-    ) -> Argument
-        requires call { IsPart code.now.trees call }
-        requires view { HasNumbers view }
-        requires caller { IsCaller caller self.now cells.now }
-        requires values { HaveNoTrap (caller_scope code.now view caller self.now cells.now)
-            (part_at code.now.trees call) place }
-        ensures { IsNextArgument (caller_scope code.now view caller self.now cells.now)
-            (part_at code.now.trees call) place result }
-    {
-        self.caller_scope(code, cells, view, caller)
-            .argument(call, place)
     }
 
     /// What the arguments of a call are evaluated in.
@@ -207,18 +186,9 @@ impl Control {
         Scope {
             tree: code.tree(),
             file: code.file(),
-            names: self.entries_of(caller),
+            names: &self.names.items()[..caller.names][caller.base..],
             cells: &cells.items()[..caller.cells],
             view,
         }
-    }
-
-    /// The names of a function that calls.
-    fn entries_of(&self, caller: Caller) -> &[Entry]
-        requires base { caller.base ≤ caller.names }
-        requires names { caller.names ≤ length self.now.names }
-        ensures { result.now ≡ drop caller.base (take caller.names self.now.names) }
-    {
-        &self.names.items()[..caller.names][caller.base..]
     }
 }

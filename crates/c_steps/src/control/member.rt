@@ -10,7 +10,7 @@ ghost use Rattle.c_steps.specs.ControlView.{task_at};
 ghost use Rattle.c_steps.specs.Items.{item_at, with_file};
 ghost use Rattle.c_steps.specs.NodeTrees.{tree_of};
 ghost use Rattle.c_steps.specs.OfProgram.{IsMadeFor};
-ghost use Rattle.c_steps.specs.Moves.{beginning, cleared};
+ghost use Rattle.c_steps.specs.Moves.{beginning};
 ghost use Rattle.c_steps.specs.Ready.{IsItem};
 ghost use Rattle.c_steps.specs.Rooming.{AreEntries};
 
@@ -51,16 +51,6 @@ impl Control {
         ensures { self.new ≡ beginning entries.now self.old }
     {
         self.empty();
-        self.bind_all(entries);
-    }
-
-    /// These names are in scope, where none was.
-    fn bind_all(&mut self, entries: &[Entry])
-        requires none { self.old ≡ cleared self.old }
-        requires room { length entries.now ≤ self.old.room }
-        requires entries { AreEntries entries.now }
-        ensures { self.new ≡ beginning entries.now self.old }
-    {
         self.names.extend(entries);
         self.names_now = self.room - entries.len();
     }

@@ -24,7 +24,8 @@ use crate::code::Code;
 use crate::control::Control;
 use crate::copies::{make_copy, room_behind_listed, room_behind_slots};
 use crate::in_scope::{entry_among, slot_entry};
-use crate::listed::{Copying, ListedName, first_listed, is_loop, loop_variable, next_listed};
+use crate::listed::{Copying, ListedName, first_listed, is_loop, next_listed};
+use crate::loops::loop_nodes;
 use crate::next::Next;
 use crate::node::Node;
 use c_model::{CELLS, Entry, View};
@@ -207,7 +208,7 @@ impl Control {
             (tree_of node.entry)) (pos 0 ∷ [])) self.old }
         ensures cells { cells.new ≡ with_numbers (pos 0 ∷ []) cells.old }
     {
-        let (code, variable) = (node.code, loop_variable(node));
+        let (code, variable) = (node.code, loop_nodes(node).variable);
         let entry = Entry {
             name: code.name(variable),
             first: cells.count() as u32,

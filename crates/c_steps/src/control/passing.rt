@@ -5,14 +5,12 @@ ghost use Rattle.c_syntax.specs.language.Numbered.{TreeView, tree_at};
 ghost use Rattle.c_model.specs.Clauses.{construct_statement};
 ghost use Rattle.c_model.specs.Copies.{makes_cells};
 ghost use Rattle.c_model.specs.AfterEvents as after_events;
-ghost use Rattle.c_model.specs.Loops.{loop_of};
 ghost use Rattle.c_model.specs.Task.Item.{EndMasked, Start};
 ghost use Rattle.c_steps.specs.declared.item.Item.TheVariants as item;
 ghost use Rattle.c_steps.specs.ControlView.{env_at, task_at};
 ghost use Rattle.c_steps.specs.Items.{item_at, items_if, loop_at, with_file};
 ghost use Rattle.c_steps.specs.OfProgram.{IsMadeFor};
 ghost use Rattle.c_steps.specs.Moves.{asking};
-ghost use Rattle.c_steps.specs.Nodes.{IsPart, part_at};
 ghost use Rattle.c_steps.specs.NodeTrees.{tree_of};
 ghost use Rattle.c_steps.specs.Passing.{IsAfterEvent, IsEventOf, IsEventOfNext, IsPassed, names_behind_asking, names_behind_work, replaced, stages_at};
 ghost use Rattle.c_steps.specs.Forms.{IsPassedBy};
@@ -24,7 +22,8 @@ use crate::code::Code;
 use crate::control::Control;
 use crate::control::giving::MEMBER_0;
 use crate::item::{Item, Loop};
-use crate::listed::{has_own_cells, loop_variable};
+use crate::listed::has_own_cells;
+use crate::loops::loop_nodes;
 use crate::node::Node;
 use c_model::{Entry, MutexKind, Point, SyncKind, SyncStage, Target, Work, WorkKind};
 
@@ -317,26 +316,14 @@ fn shared(construct: Node, start: i64, step: i64, count: u64, names: usize) -> L
     } }
     ensures is_loop { IsLoop construct.entry.code.now result }
 {
-    let variable = construct.code.name(loop_variable(construct));
-    let body = loop_body(construct);
+    let parts = loop_nodes(construct);
     Loop {
         construct: construct.number,
-        variable,
-        body,
+        variable: construct.code.name(parts.variable),
+        body: parts.body,
         start,
         step,
         count,
         names,
-    }
-}
-
-/// The body of the loop that a construct shares out.
-fn loop_body(construct: Node) -> Option<u32>
-    ensures body { part_at construct.entry.code.now.trees result ≡ (loop_of (tree_of construct.entry)).body }
-    ensures there { IsPart construct.entry.code.now.trees result }
-{
-    match construct.code.program().shared_loop(construct.number) {
-        Some(found) => Some(found.body),
-        None => None,
     }
 }

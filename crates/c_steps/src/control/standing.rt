@@ -1,6 +1,6 @@
 //! What stands next, told without a change.
 
-ghost use Rattle.std.specs.Prelude.{◌≡◌, slice_get, IfSome};
+ghost use Rattle.std.specs.Prelude.{◌≡◌, ◌∷◌, [], reverse, slice_get, IfSome, MatchOption};
 ghost use Rattle.std.specs.Option.{option_map};
 ghost use Rattle.c_syntax.specs.language.Tree.{kind_of};
 ghost use Rattle.c_model.specs.Step as steps;
@@ -8,28 +8,17 @@ ghost use Rattle.c_steps.specs.ControlView.{task_at};
 ghost use Rattle.c_steps.specs.Items.{item_at, todo_at};
 ghost use Rattle.c_steps.specs.OfProgram.{IsMadeFor};
 ghost use Rattle.c_steps.specs.Nodes.{IsPart, part_at};
-ghost use Rattle.c_steps.specs.Ready.{AreFrames, IsFrame, IsItem};
-ghost use Rattle.c_steps.specs.FrontFrame.{Fronts};
+ghost use Rattle.c_steps.specs.Ready.{AreFrames, IsItem};
+ghost use Rattle.c_steps.specs.FrontFrame.{above};
 
 use crate::code::Code;
 use crate::control::Control;
 use crate::control::settling::skips_masked;
-use crate::frame::{Frame, begun};
+use crate::frame::Frame;
 use crate::item::Item;
 use crate::look::{Look, look_at};
 use c_model::View;
 use c_syntax::{Directive, NodeKind};
-
-/// What a frame comes to, when what the task goes past is left out.
-#[derive(Clone, Copy)]
-enum Front {
-    /// This item stands next.
-    Found(Item),
-    /// What stands next is what the frames below it say.
-    Over,
-    /// Nothing stands next in this function.
-    Nothing,
-}
 
 impl Control {
     /// Whether an event, or the end, stands next. Then no silent step does, and nothing is asked.
@@ -44,7 +33,7 @@ impl Control {
     }
 
     /// What stands next, when what the task goes past is left out.
-    #[tactic(auto, using(crate::proofs::Standing::stands_cases))]
+    #[tactic(auto, using(crate::proofs::Standing::left_cases))]
     #[inline(always)]
     pub(super) fn front(&self, code: &Code, view: View) -> Option<Item>
         requires { AreFrames code.now self.now.frames }
@@ -52,39 +41,36 @@ impl Control {
             option_map (item_at code.now) result }
         ensures item { IfSome result (IsItem code.now) }
     {
-        let mut below = self.stack.items();
-        while let Some((frame, rest)) = below.split_last() {
-            match front_of(code, view, *frame) {
-                Front::Found(item) => return Some(item),
-                Front::Nothing => return None,
-                Front::Over => below = rest,
+        let (mut shown, mut below) = (None, self.stack.items());
+        while let Some((frame, rest)) = first_frame(shown, below) {
+            below = rest;
+            match look_at(code, &frame) {
+                Look::Nothing => return None,
+                Look::Over => shown = None,
+                Look::Instead(other) => shown = Some(other),
+                Look::Found(item) => {
+                    if !skips_masked(code, item, view) {
+                        return Some(item);
+                    }
+                    shown = frame.begun();
+                }
             }
         }
         None
     }
 }
 
-/// What a frame comes to, when what the task goes past is left out.
+/// The first of the frames that are left: the one that is shown in place of others, and those below it, the first of which is the last.
 #[inline(always)]
-fn front_of(code: &Code, view: View, frame: Frame) -> Front
-    requires { IsFrame code.now frame }
-    ensures { Fronts code.now view frame result }
+fn first_frame(shown: Option<Frame>, below: &[Frame]) -> Option<(Frame, &[Frame])>
+    ensures { MatchOption result (above shown (reverse below.now) ≡ []) (λ first.
+        above shown (reverse below.now) ≡ first.0 ∷ reverse first.1.now) }
 {
-    let mut shown = frame;
-    loop {
-        match look_at(code, &shown) {
-            Look::Nothing => return Front::Nothing,
-            Look::Over => return Front::Over,
-            Look::Instead(other) => shown = other,
-            Look::Found(item) => {
-                if !skips_masked(code, item, view) {
-                    return Front::Found(item);
-                }
-                match begun(&shown) {
-                    Some(other) => shown = other,
-                    None => return Front::Over,
-                }
-            }
+    match shown {
+        Some(frame) => Some((frame, below)),
+        None => {
+            let (frame, rest) = below.split_last()?;
+            Some((*frame, rest))
         }
     }
 }

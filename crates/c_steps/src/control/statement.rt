@@ -12,11 +12,11 @@ ghost use Rattle.c_steps.specs.Steps.{Advances, CanStep};
 use crate::cells::Cells;
 use crate::code::Code;
 use crate::control::Control;
-use crate::control::events::begin_standalone;
+use crate::control::events::synchronises;
 use crate::next::{Made, Next, made};
 use crate::node::Node;
-use c_model::View;
-use c_syntax::NodeKind;
+use c_model::{SyncKind, SyncStage, View};
+use c_syntax::{NodeKind, Standalone};
 
 impl Control {
     /// A statement begins. What can't stand as one is an empty statement, and so is one that is missing.
@@ -48,7 +48,14 @@ impl Control {
     {
         match node.kind() {
             NodeKind::LockCall(which) => self.begin_lock_call(cells, view, which, node),
-            NodeKind::Standalone(which) => begin_standalone(which, node),
+            NodeKind::Standalone(which) => match which {
+                Standalone::Barrier => {
+                    synchronises(node, SyncKind::Barrier, SyncStage::RegionBegin)
+                }
+                Standalone::Taskwait => {
+                    synchronises(node, SyncKind::Taskwait, SyncStage::RegionBegin)
+                }
+            },
             NodeKind::Construct(directive) => self.begin_construct(cells, view, directive, node),
             _ => made(self.make_statement(cells, view, node)),
         }
@@ -69,7 +76,7 @@ impl Control {
             NodeKind::For => self.begin_for(cells, view, node),
             NodeKind::Return => self.begin_return(cells, view, node),
             NodeKind::SetCall => self.begin_set_call(cells, view, node),
-            NodeKind::Step => self.begin_step(cells, view, node),
+            NodeKind::Step => self.make_step(node.code, cells, view, node.child(0), None),
             NodeKind::Called => self.begin_called(cells, view, node),
             NodeKind::Print => self.begin_print(cells, view, node),
             _ => self.begin_empty(node.code, cells, view),

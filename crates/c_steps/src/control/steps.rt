@@ -6,7 +6,6 @@ ghost use Rattle.c_model.specs.StepOutcomes.{sets, with_result};
 ghost use Rattle.c_model.specs.Statements as statements;
 ghost use Rattle.c_model.specs.Value.{binary_value};
 ghost use Rattle.c_steps.specs.ControlView.{here_at};
-ghost use Rattle.c_steps.specs.Forms.{MakesBy};
 ghost use Rattle.c_steps.specs.Items.{items_if};
 ghost use Rattle.c_steps.specs.Nodes.{IsPart, part_at};
 ghost use Rattle.c_steps.specs.Ready.{IsItem, IsStepping};
@@ -17,22 +16,11 @@ use crate::code::Code;
 use crate::control::Control;
 use crate::item::Item;
 use crate::next::{Made, Refusal};
-use crate::node::Node;
 use crate::numbers::{binary_result, deciding_value};
 use c_model::View;
 use c_syntax::{BinaryOp, Bump, NodeKind, Setting};
 
 impl Control {
-    /// A step that is a statement.
-    #[inline(always)]
-    pub(super) fn begin_step(&mut self, cells: &mut Cells, view: View, node: Node) -> Made
-        requires { CanStep node.code.now view self.old }
-        ensures { MakesBy statements.begin_step node.entry view
-            result self.old cells.old self.new cells.new }
-    {
-        self.make_step(node.code, cells, view, node.child(0), None)
-    }
-
     /// A step that is a statement, or the third part of a loop, behind which an item may stand next.
     #[tactic(auto, using(crate::proofs::Stepping::items_if_cases))]
     #[inline(always)]

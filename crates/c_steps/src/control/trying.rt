@@ -1,28 +1,21 @@
 //! A silent step of C's own statements, made without a look at what else may stand next.
 
-ghost use Rattle.std.specs.Prelude.{◌≡◌, ◌<◌, ◌≤◌, slice_get, slice_set, IfSome, Some};
-ghost use Rattle.c_syntax.specs.language.Tree.{kind_of};
-ghost use Rattle.c_model.specs.Step.{begin_statement, step_of};
-ghost use Rattle.c_steps.specs.ControlView.{here_at, task_at};
+ghost use Rattle.std.specs.Prelude.{◌<◌, ◌≤◌, IfSome};
+ghost use Rattle.c_model.specs.Step.{step_of};
+ghost use Rattle.c_steps.specs.ControlView.{here_at};
 ghost use Rattle.c_steps.specs.Items.{item_at};
-ghost use Rattle.c_steps.specs.NodeTrees.{tree_of};
 ghost use Rattle.c_steps.specs.OfProgram.{IsMadeFor};
 ghost use Rattle.c_steps.specs.Ready.{AreFrames, IsFront, IsItem};
 ghost use Rattle.c_steps.specs.Views.{HasNumbers};
-ghost use Rattle.c_steps.specs.Rooming.{open_calls};
 ghost use Rattle.c_steps.specs.Steps.{CanStep};
-ghost use Rattle.c_steps.specs.Trying.{HasPartOnTop, HaveStepsMade, IsAttempt, IsTried, item_of, next_on_top};
-ghost use Rattle.c_steps.specs.declared.frame.Frame.TheVariants.{One, Parts};
-ghost use Rattle.c_steps.specs.declared.item.Item.TheVariants.{Leave};
+ghost use Rattle.c_steps.specs.Trying.{HaveStepsMade, IsAttempt, IsSameBy, IsTried, item_of};
 
 use crate::cells::Cells;
 use crate::code::Code;
 use crate::control::Control;
 use crate::control::statement::is_own;
-use crate::frame::Frame;
-use crate::item::Item;
+use crate::look::{Plain, Shown, plain_look};
 use crate::node::Node;
-use crate::plain::{Part, Plain, plain_item, shown_part};
 use c_model::View;
 
 // What makes a large value, as an item or a `Next`, is never inlined here: a function pays at entry for all that it may make.
@@ -62,79 +55,21 @@ impl Control {
         }
     }
 
-    /// What stands next, where it is plain. Then it stands first. Where nothing is left of a part of a block, the next one stands there.
+    /// What stands next, where it is plain. Then it stands first.
+    #[tactic(auto, using(crate::proofs::Showing::shown_cases))]
     #[inline(always)]
     fn plain_front(&mut self, code: &Code) -> Option<Plain>
         requires { AreFrames code.now self.old.frames }
-        ensures frames { AreFrames code.now self.new.frames }
-        ensures rest { self.new ≡ record self.old { frames = self.new.frames } }
-        ensures task { task_at code.now self.new ≡ task_at code.now self.old }
+        ensures same { IsSameBy code.now self.old self.new }
         ensures found { IfSome result (λ plain. IsFront code.now self.new.frames (item_of plain)) }
     {
-        match self.stack.top() {
-            Some(Frame::One(item)) => plain_item(item),
-            Some(
-                Frame::Parts {
-                    block,
-                    place,
-                    at,
-                    names,
-                },
-            ) => {
-                let (block, place, names) = (*block, *place, *names);
-                match shown_part(code, block, place, *at) {
-                    Part::Next(plain) => Some(plain),
-                    Part::Past => {
-                        self.go_to_next_part();
-                        self.shown_first(code, block, place + 1, names)
-                    }
-                    Part::Over => {
-                        self.end_parts(names);
-                        Some(Plain::Leave(names))
-                    }
-                }
-            }
-            _ => None,
-        }
-    }
-
-    /// The same, where the parts of a block are on top from a place on.
-    #[inline(always)]
-    fn shown_first(&mut self, code: &Code, block: u32, place: u32, names: usize) -> Option<Plain>
-        requires frames { AreFrames code.now self.old.frames }
-        requires top { Some (Parts block place 0 names) ≡ slice_get self.old.frames 0 }
-        ensures frames { AreFrames code.now self.new.frames }
-        ensures rest { self.new ≡ record self.old { frames = self.new.frames } }
-        ensures task { task_at code.now self.new ≡ task_at code.now self.old }
-        ensures found { IfSome result (λ plain. IsFront code.now self.new.frames (item_of plain)) }
-    {
-        match shown_part(code, block, place, 0) {
-            Part::Next(plain) => Some(plain),
-            Part::Past => None,
-            Part::Over => {
-                self.end_parts(names);
-                Some(Plain::Leave(names))
+        while let Some(frame) = self.stack.top() {
+            match plain_look(code, frame)? {
+                Shown::Next(plain) => return Some(plain),
+                Shown::Instead(other) => self.replace_top(other),
             }
         }
-    }
-
-    /// The part of a block is past that stands next.
-    #[tactic(auto, using(crate::proofs::Showing::next_calls))]
-    #[inline(always)]
-    fn go_to_next_part(&mut self)
-        requires { HasPartOnTop self.old.frames }
-        ensures { self.new ≡ record self.old { frames = next_on_top self.old.frames } }
-    {
-        self.stack.next_part();
-    }
-
-    /// The end of a block stands next, in place of its parts.
-    #[inline(always)]
-    fn end_parts(&mut self, names: usize)
-        requires { open_calls (slice_set self.old.frames 0 (One (Leave names))) ≡ open_calls self.old.frames }
-        ensures { self.new ≡ record self.old { frames = slice_set self.old.frames 0 (One (Leave names)) } }
-    {
-        self.replace_top(Frame::One(Item::Leave(names)));
+        None
     }
 
     /// The step of what stands next.
@@ -147,7 +82,13 @@ impl Control {
             (step_of (item_at code.now (item_of plain)) (here_at code.now view self.old cells.old)) }
     {
         match plain {
-            Plain::Start(number) => self.try_statement(cells, view, Node { code, number }),
+            Plain::Start(number) => {
+                let node = Node { code, number };
+                if !is_own(node.kind()) {
+                    return false;
+                }
+                self.make_statement(cells, view, node).is_ok()
+            }
             Plain::Declare(number) => self.declare(cells, view, Node { code, number }).is_ok(),
             Plain::Leave(names) => self.leave_block(code, cells, view, names).is_ok(),
             Plain::Test { node, names } => {
@@ -161,20 +102,5 @@ impl Control {
             Plain::Return(number) => self.returns(code, cells, view, number).is_ok(),
             Plain::FallOff => self.returns(code, cells, view, 0).is_ok(),
         }
-    }
-
-    /// The step of a statement, if it is one of C's own.
-    #[tactic(auto, using(crate::proofs::Trying::attempt_of))]
-    #[inline(always)]
-    fn try_statement(&mut self, cells: &mut Cells, view: View, node: Node) -> bool
-        requires { CanStep node.code.now view self.old }
-        ensures { let program = node.entry.code.now in
-            IsAttempt program result self.old cells.old self.new cells.new (begin_statement (kind_of (tree_of node.entry))
-            (here_at program view self.old cells.old) (tree_of node.entry)) }
-    {
-        if !is_own(node.kind()) {
-            return false;
-        }
-        self.make_statement(cells, view, node).is_ok()
     }
 }

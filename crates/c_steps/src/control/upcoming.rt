@@ -3,7 +3,7 @@
 ghost use Rattle.std.specs.Prelude.{◌≡◌, IfSome};
 ghost use Rattle.c_syntax.specs.language.Numbered.{TreeView};
 ghost use Rattle.c_model.specs.declared.view.View.{View as SeenView};
-ghost use Rattle.c_model.specs.Upcoming.{upcoming_by_form, upcoming_item, upcoming_of};
+ghost use Rattle.c_model.specs.Upcoming.{upcoming_item, upcoming_of};
 ghost use Rattle.c_steps.specs.ControlView.{task_at};
 ghost use Rattle.c_steps.specs.Items.{item_at};
 ghost use Rattle.c_steps.specs.OfProgram.{IsMadeFor};
@@ -69,19 +69,12 @@ fn upcoming_item(code: &Code, item: Item) -> Upcoming
         Item::Sync { kind, stage, .. } => Upcoming::Sync { kind, stage },
         Item::Acquire { id, .. } => Upcoming::Acquire(id),
         Item::TestLock { id, .. } => Upcoming::Test(id),
-        other => upcoming_by_form(code, other),
-    }
-}
-
-/// An event or a silent step, by the form of the item.
-#[inline(always)]
-fn upcoming_by_form(code: &Code, item: Item) -> Upcoming
-    requires { IsItem code.now item }
-    ensures { result ≡ upcoming_by_form (item_at code.now item) }
-{
-    if is_event(code, item) {
-        Upcoming::Event
-    } else {
-        Upcoming::Step
+        other => {
+            if is_event(code, other) {
+                Upcoming::Event
+            } else {
+                Upcoming::Step
+            }
+        }
     }
 }

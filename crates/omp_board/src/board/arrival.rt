@@ -57,9 +57,10 @@ impl Board {
         requires { task ≡ current self.now.world thread }
         ensures { result ≡ upcoming_of (view_of self.now.world thread) (code_of self.now.world thread) }
     {
-        match self.tasks.upcoming_at_once(task) {
+        let (code, control) = self.tasks.code_of(task);
+        match control.upcoming_at_once() {
             Some(upcoming) => upcoming,
-            None => self.tasks.upcoming(task, self.view(thread)),
+            None => control.upcoming(code, self.view(thread)),
         }
     }
 
@@ -68,9 +69,13 @@ impl Board {
         ensures { result ≡ gates.arrival_without_task self.now.world thread }
     {
         if thread == 0 {
-            return arrival_around(self.pool.task(INITIAL_TASK).condition);
+            return match self.pool.task(INITIAL_TASK).condition {
+                Condition::Made => Arrival::RuntimeEvent(Event::InitialTaskBegin),
+                Condition::Ready | Condition::Started => Arrival::Waits,
+                Condition::Finished => Arrival::RuntimeEvent(Event::ThreadEnd),
+            };
         }
-        if self.main_returned() && self.has_no_tasks(IMPLICIT_REGION) {
+        if self.main_returned() && self.pool.unfinished(IMPLICIT_REGION) == 0 {
             Arrival::RuntimeEvent(Event::ThreadEnd)
         } else {
             Arrival::Waits
@@ -138,7 +143,7 @@ impl Board {
     fn arrival_behind_main(&self, thread: u8) -> Arrival
         ensures { result ≡ gates.arrival_behind_main self.now.world thread }
     {
-        if !self.has_no_tasks(self.current_region(thread)) {
+        if self.pool.unfinished(self.current_region(thread)) != 0 {
             return self.starts_if(thread);
         }
         if self.workers_over() {
@@ -229,7 +234,11 @@ impl Board {
         ensures { result ≡ gates.is_in_barrier (task_at self.now.world task).code.todo }
     {
         match self.tasks.standing(task) {
-            Upcoming::Sync { kind, stage } => is_barrier(kind) && is_begun_stage(stage),
+            Upcoming::Sync {
+                stage: SyncStage::RegionBegin,
+                ..
+            } => false,
+            Upcoming::Sync { kind, .. } => is_barrier(kind),
             _ => false,
         }
     }
@@ -250,13 +259,6 @@ impl Board {
             Ok(may) => !may,
             Err(_) => false,
         }
-    }
-
-    /// Whether no explicit task of the region is unfinished.
-    fn has_no_tasks(&self, region: u32) -> bool
-        ensures { result ≡ gates.has_no_tasks self.now.world region }
-    {
-        self.pool.unfinished(region) == 0
     }
 
     /// Whether each worker that was made has ended.
@@ -281,17 +283,6 @@ fn comes_if(may: bool) -> Arrival
     }
 }
 
-/// What thread 0 comes to without a task, where the initial task has come so far.
-fn arrival_around(condition: Condition) -> Arrival
-    ensures { result ≡ gates.arrival_around condition }
-{
-    match condition {
-        Condition::Made => Arrival::RuntimeEvent(Event::InitialTaskBegin),
-        Condition::Ready | Condition::Started => Arrival::Waits,
-        Condition::Finished => Arrival::RuntimeEvent(Event::ThreadEnd),
-    }
-}
-
 /// Whether a thread that has come so far wasn't made, or has ended.
 pub(super) fn is_out(stage: ThreadStage) -> bool
     ensures { result ≡ gates.is_out stage }
@@ -304,11 +295,4 @@ pub(super) fn is_barrier(kind: SyncKind) -> bool
     ensures { result ≡ gates.is_barrier kind }
 {
     !matches!(kind, SyncKind::Taskwait)
-}
-
-/// Whether a task at this event of a barrier is suspended in it.
-fn is_begun_stage(stage: SyncStage) -> bool
-    ensures { result ≡ gates.is_begun_stage stage }
-{
-    !matches!(stage, SyncStage::RegionBegin)
 }

@@ -1,4 +1,4 @@
-//! Events, of a task's code and beside all code: what happens at their Go. The functions at the end are a table: one an event, with its numbers.
+//! Events, of a task's code and beside all code: what happens at their Go. `event_at` is a table: an arm an event, with its numbers.
 
 ghost use Rattle.std.specs.Prelude.{◌≡◌, ◌≤◌, ◌-◌, true};
 ghost use Rattle.c_syntax.specs.language.Numbered.{tree_at};

@@ -50,7 +50,10 @@ impl Board {
         match point {
             Point::ParallelBegin { requested, .. } => self.fork(thread, requested),
             Point::ParallelEnd { .. } => {
-                self.end_fork(thread);
+                let region = self.tasks.forked(self.current(thread));
+                let mut head = *self.regions.head(region);
+                head.ended = true;
+                self.regions.set_head(region, head);
                 Ok(())
             }
             Point::TaskCreate { undeferred, .. } => self.create(thread, undeferred),
@@ -62,10 +65,18 @@ impl Board {
                 stage,
             } => self.synchronise(thread, codeptr, kind, stage),
             Point::MutexAcquire { wait_id, kind, .. } => self.ask_for(thread, wait_id, kind),
-            Point::MutexAcquired { wait_id, .. } => self.acquire(thread, wait_id),
-            Point::MutexReleased { wait_id, .. } => self.release(thread, wait_id),
-            Point::LockInit { wait_id, .. } => self.init_lock(wait_id),
-            Point::LockDestroy { wait_id, .. } => self.destroy_lock(wait_id),
+            Point::MutexAcquired { wait_id, .. } => {
+                self.may_acquire(wait_id)?;
+                let task = self.current(thread);
+                self.locks.take(wait_id, task);
+                Ok(())
+            }
+            Point::MutexReleased { wait_id, .. } => {
+                let task = self.current(thread);
+                self.locks.give(wait_id, task).map_err(trap)
+            }
+            Point::LockInit { wait_id, .. } => self.locks.init(wait_id).map_err(trap),
+            Point::LockDestroy { wait_id, .. } => self.locks.destroy(wait_id).map_err(trap),
             _ => Ok(()),
         }
     }
@@ -104,17 +115,6 @@ impl Board {
         }
     }
 
-    /// The region is over that the thread's task has forked.
-    fn end_fork(&mut self, thread: u8)
-        ensures { let W = self.old.world in
-            self.new ≡ record self.old { world = changes.region_over W (task_at W (current W thread)).forked } }
-    {
-        let region = self.tasks.forked(self.current(thread));
-        let mut head = *self.regions.head(region);
-        head.ended = true;
-        self.regions.set_head(region, head);
-    }
-
     /// An explicit task is made.
     fn create(&mut self, thread: u8, undeferred: bool) -> Result<(), Halt>
         requires made { IsMadeWorld self.old.world }
@@ -149,7 +149,8 @@ impl Board {
         match self.meeting_fault(thread, what) {
             Some(halt) => Err(halt),
             None => {
-                self.meet(thread, what);
+                let (region, member) = self.place_in_team(thread);
+                self.regions.meet(region, member, what);
                 Ok(())
             }
         }
@@ -163,9 +164,11 @@ impl Board {
         if self.is_explicit(task) {
             return Some(Halt::Trap(NESTING));
         }
+        let (code, control) = self.tasks.code_of(task);
         match self.meeting_answer(thread, what) {
             Err(_) => Some(Halt::Trap(MISMATCH)),
-            Ok(_) => trap_if(self.tasks.is_in_exclusive(task), NESTING),
+            Ok(_) if control.is_in_exclusive(code) => Some(Halt::Trap(NESTING)),
+            Ok(_) => None,
         }
     }
 
@@ -177,7 +180,8 @@ impl Board {
             result W W }
     {
         let task = self.current(thread);
-        if self.is_explicit(task) || self.tasks.is_in_work(task) {
+        let (code, control) = self.tasks.code_of(task);
+        if self.is_explicit(task) || control.is_in_work(code) {
             Err(Halt::Trap(NESTING))
         } else {
             Ok(())
@@ -222,7 +226,8 @@ impl Board {
     {
         match kind {
             MutexKind::Critical => {
-                if self.tasks.is_in_critical(self.current(thread), wait_id) {
+                let (code, control) = self.tasks.code_of(self.current(thread));
+                if control.is_in_critical(code, wait_id) {
                     Err(Halt::Trap(NESTING))
                 } else {
                     Ok(())
@@ -243,55 +248,6 @@ impl Board {
             Ok(_) => Ok(()),
             Err(fault) => Err(trap(fault)),
         }
-    }
-
-    /// It comes to be owned.
-    fn acquire(&mut self, thread: u8, wait_id: u32) -> Result<(), Halt>
-        ensures effect { let W = self.old.world in IsEffect
-            (effects.lock_fault (answers.answer_to_may_take W.locks.locks wait_id))
-            (changes.owned_by W wait_id (Some (current W thread)))
-            result W self.new.world }
-        ensures kept { KeepsPassing self.old self.new }
-    {
-        self.may_acquire(wait_id)?;
-        let task = self.current(thread);
-        self.locks.take(wait_id, task);
-        Ok(())
-    }
-
-    /// It is given back.
-    fn release(&mut self, thread: u8, wait_id: u32) -> Result<(), Halt>
-        ensures effect { let W = self.old.world in IsEffect
-            (effects.lock_fault (answers.answer_to_give W.locks.locks wait_id (current W thread)))
-            (changes.owned_by W wait_id None)
-            result W self.new.world }
-        ensures kept { KeepsPassing self.old self.new }
-    {
-        let task = self.current(thread);
-        self.locks.give(wait_id, task).map_err(trap)
-    }
-
-    /// A lock is initialised.
-    fn init_lock(&mut self, wait_id: u32) -> Result<(), Halt>
-        requires { 0 < self.old.room.locks }
-        ensures effect { let W = self.old.world in IsEffect
-            (effects.lock_fault (answers.answer_to_init W.locks.locks wait_id))
-            (changes.with_initialised_lock W wait_id)
-            result W self.new.world }
-        ensures kept { KeepsPassing self.old self.new }
-    {
-        self.locks.init(wait_id).map_err(trap)
-    }
-
-    /// A lock is destroyed.
-    fn destroy_lock(&mut self, wait_id: u32) -> Result<(), Halt>
-        ensures effect { let W = self.old.world in IsEffect
-            (effects.lock_fault (answers.answer_to_destroy W.locks.locks wait_id))
-            (changes.without_lock W wait_id)
-            result W self.new.world }
-        ensures kept { KeepsPassing self.old self.new }
-    {
-        self.locks.destroy(wait_id).map_err(trap)
     }
 
     /// The limit that the event meets, if it meets one.
@@ -334,7 +290,11 @@ impl Board {
     {
         match event {
             Event::ThreadBegin => self.set_stage(thread, ThreadStage::Begun),
-            Event::InitialTaskBegin => self.begin_initial(thread),
+            Event::InitialTaskBegin => {
+                self.take_up(thread, INITIAL_TASK);
+                self.start(INITIAL_TASK);
+                self.begin_member(IMPLICIT_REGION, 0, INITIAL_TASK);
+            }
             Event::InitialTaskEnd => {
                 self.pop(thread);
                 self.finish(INITIAL_TASK);
@@ -358,17 +318,6 @@ impl Board {
         }
     }
 
-    /// The initial task begins.
-    #[tactic(auto, unfolding(omp_model::specs::EventEffects::effect_of))]
-    fn begin_initial(&mut self, thread: u8)
-        requires { length (thread_at self.old.world thread).stack < STACK_LIMIT }
-        ensures { self.new ≡ record self.old { world = effect_of self.old.world thread event.InitialTaskBegin } }
-    {
-        self.take_up(thread, INITIAL_TASK);
-        self.start(INITIAL_TASK);
-        self.begin_member(IMPLICIT_REGION, 0, INITIAL_TASK);
-    }
-
     /// A member's implicit task is made and begins.
     #[tactic(auto, unfolding(omp_model::specs::EventEffects::effect_of))]
     fn join(&mut self, thread: u8, region: u32, task: u32)
@@ -384,7 +333,8 @@ impl Board {
     {
         let parent = self.regions.head(region).task;
         let member = self.member_index(thread, region);
-        self.add_member(parent, region);
+        let _ = self.pool.add(parent, region, TaskKind::Implicit);
+        self.tasks.add_member(parent);
         self.start(task);
         self.take_up(thread, task);
         self.begin_member(region, member, task);
@@ -398,17 +348,6 @@ impl Board {
             self.pool.task(task).kind,
             TaskKind::Explicit | TaskKind::Undeferred
         )
-    }
-}
-
-/// The trap with this number, where the rule is broken.
-fn trap_if(is_broken: bool, number: u8) -> Option<Halt>
-    ensures { result ≡ effects.trap_if is_broken number }
-{
-    if is_broken {
-        Some(Halt::Trap(number))
-    } else {
-        None
     }
 }
 

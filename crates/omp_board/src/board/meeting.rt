@@ -1,8 +1,7 @@
 //! The members of a team: that they begin, and what they meet at events of their code.
 
-ghost use Rattle.std.specs.Prelude.{◌≡◌, ◌<◌, IsOk};
+ghost use Rattle.std.specs.Prelude.{◌≡◌};
 ghost use Rattle.team_parts.specs.Meetings.{HasChunk};
-ghost use Rattle.omp_model.specs.Members.{current_region};
 ghost use Rattle.omp_model.specs.Changes as changes;
 ghost use Rattle.omp_model.specs.EventEffects as effects;
 
@@ -28,21 +27,6 @@ impl Board {
     {
         let (region, member) = self.place_in_team(thread);
         self.regions.meeting_answer(region, member, what)
-    }
-
-    /// The thread meets this next.
-    pub(super) fn meet(&mut self, thread: u8, what: Meeting)
-        requires of_region { self.old.room.region ≡ current_region self.old.world thread }
-        requires room { 0 < self.old.room.meetings }
-        requires chunk { HasChunk what }
-        requires same { IsOk (effects.meeting_at self.old.world thread what) }
-        ensures { self.new ≡ record self.old {
-          world = effects.after_meeting_at self.old.world thread what;
-          room = record self.old.room { meetings = 0 };
-        } }
-    {
-        let (region, member) = self.place_in_team(thread);
-        self.regions.meet(region, member, what);
     }
 }
 

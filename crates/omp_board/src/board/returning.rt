@@ -8,6 +8,7 @@ use crate::board::arrival::is_barrier;
 use crate::head::member_left;
 use c_model::SyncStage;
 use omp_model::{Event, ThreadStage};
+use task_pool::Condition;
 
 impl Board {
     /// The callback of the thread's event has returned, and what comes of the event takes hold.
@@ -31,8 +32,16 @@ impl Board {
                 task,
                 undeferred: true,
                 ..
-            } => self.detain(thread, task),
-            Event::TaskCreate { task, .. } => self.make_ready(task),
+            } => {
+                if let Some(thread) = self.threads.get_mut(thread as usize) {
+                    thread.undeferred = task;
+                }
+            }
+            Event::TaskCreate { task, .. } => {
+                if let Condition::Made = self.pool.task(task).condition {
+                    self.pool.ready(task);
+                }
+            }
             Event::TaskEnd { task } => self.finish(task),
             Event::Sync {
                 kind,

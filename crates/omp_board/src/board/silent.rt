@@ -148,7 +148,8 @@ impl Board {
     {
         let (region, member) = self.place_in_team(thread);
         let chunk = self.regions.next_chunk(region, member);
-        fitting_chunk(self.tasks.asked_count(task), chunk)
+        let (code, control) = self.tasks.code_of(task);
+        fitting_chunk(control.asked_count(code), chunk)
     }
 
     /// The thread takes the next section of the construct that its current task is in.
@@ -159,7 +160,9 @@ impl Board {
     {
         let (region, member) = self.place_in_team(thread);
         let section = self.regions.next_section(region, member);
-        fitting_section(self.tasks.asked_sections(task), section)
+        let (code, control) = self.tasks.code_of(task);
+        let count = control.asked_sections(code);
+        section.filter(|section| *section < count)
     }
 
     /// The share of the construct's work that the answer gives, if it gives one.
@@ -200,11 +203,4 @@ fn fitting_chunk(count: u64, chunk: Option<(u64, u64)>) -> Option<(u64, u64)>
         Some(end) if length > 0 && end <= count => Some((start, length)),
         _ => None,
     }
-}
-
-/// The section, if it is one of so many.
-fn fitting_section(count: u32, section: Option<u32>) -> Option<u32>
-    ensures { result ≡ silence.fitting_section count section }
-{
-    section.filter(|section| *section < count)
 }

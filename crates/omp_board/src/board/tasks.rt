@@ -22,22 +22,6 @@ impl Board {
         self.pool.made_count() == TASK_LIMIT
     }
 
-    /// A member's implicit task is made, in the region that this task has forked.
-    pub(super) fn add_member(&mut self, parent: u32, region: u32)
-        requires room { 0 < self.old.room.tasks }
-        requires place { region < length self.old.world.regions }
-        requires parent { MayBeParent self.old.world.pool.tasks parent }
-        requires few { IsOk (answer_to_add self.old.world.pool.tasks) }
-        ensures { self.new ≡ record self.old {
-          world = changes.task_made self.old.world parent region kind.Implicit
-              (member_code (task_at self.old.world parent).code);
-          room = record self.old.room { tasks = 0 };
-        } }
-    {
-        let _ = self.pool.add(parent, region, TaskKind::Implicit);
-        self.tasks.add_member(parent);
-    }
-
     /// The explicit task is made whose construct stands next in this task's code.
     pub(super) fn add_explicit(&mut self, creator: u32, region: u32, undeferred: bool)
         requires room { 0 < self.old.room.tasks }
@@ -60,15 +44,6 @@ impl Board {
         };
         let _ = self.pool.add(creator, region, kind);
         self.tasks.add_explicit(creator);
-    }
-
-    /// A task that was made is ready. Nothing happens to another one.
-    pub(super) fn make_ready(&mut self, task: u32)
-        ensures { self.new ≡ record self.old { world = changes.with_ready_task self.old.world task } }
-    {
-        if let Condition::Made = self.pool.task(task).condition {
-            self.pool.ready(task);
-        }
     }
 
     /// A task that hasn't finished starts.

@@ -51,15 +51,6 @@ impl Board {
         }
     }
 
-    /// The thread is to start this undeferred task next.
-    pub(super) fn detain(&mut self, thread: u8, task: u32)
-        ensures { self.new ≡ record self.old { world = changes.with_undeferred self.old.world thread task } }
-    {
-        if let Some(thread) = self.threads.get_mut(thread as usize) {
-            thread.undeferred = task;
-        }
-    }
-
     /// The thread has taken a share of work, or that was told.
     pub(super) fn share(&mut self, thread: u8, share: Option<Share>)
         ensures { self.new ≡ record self.old { world = changes.with_taken_share self.old.world thread share } }

@@ -82,7 +82,8 @@ impl Board {
         ensures { result ≡ cause.whole_value self.now.world }
     {
         if self.threads_over() && self.main_returned() {
-            Some(self.tasks.returned(INITIAL_TASK).unwrap_or(0))
+            let (_, control) = self.tasks.code_of(INITIAL_TASK);
+            Some(control.returned().unwrap_or(0))
         } else {
             None
         }

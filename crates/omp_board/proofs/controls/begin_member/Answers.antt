@@ -2,7 +2,6 @@ use Rattle.std.proofs.Common.{refl, ap, ◌∙◌}
 use Rattle.c_steps.specs.ControlView.{task_at}
 use Rattle.omp_model.specs.EventEffects.{member_code}
 use Rattle.omp_board.specs.Tasks.{code_of}
-use Rattle.omp_board.proofs.Blanks.{last_is_made, others_are_made}
 use Rattle.omp_board.proofs.Members.{can_begin, forked_stands, member_blank, member_coded, none_stands}
 use Rattle.omp_board.proofs.controls.begin_member.Goals as goal
 
@@ -11,18 +10,12 @@ member-requires-clause-forked c =
     let parent = task_at c.args.code.now c.in_ok-parent.parent.now in
     can_begin parent.todo (forked_stands _ refl parent c.in-RegionEnd.ensures)
 
-pub member-requires-clause-into : goal.member-requires-clause-into
-member-requires-clause-into c = last_is_made c.args.code.now c.in_ok-member-in-RegionEnd.member c.args.blanks.now.items _ c.requires.blanks c.in_ok-member-in-RegionEnd.ensures.items
-
-pub returns-in_ok-member-in-RegionEnd-clause-code : goal.returns-in_ok-member-in-RegionEnd-clause-code
-returns-in_ok-member-in-RegionEnd-clause-code c =
+pub returns-in-RegionEnd-clause-code : goal.returns-in-RegionEnd-clause-code
+returns-in-RegionEnd-clause-code c =
     let parent = task_at c.args.code.now c.in_ok-parent.parent.now in
     c.member.ensures.task
     ∙ member_coded parent (forked_stands _ refl parent c.in-RegionEnd.ensures)
     ∙ ap (λ control. member_code (code_of c.args.code.now control)) c.in_ok-parent.ensures
-
-pub returns-in_ok-member-in-RegionEnd-clause-blanks : goal.returns-in_ok-member-in-RegionEnd-clause-blanks
-returns-in_ok-member-in-RegionEnd-clause-blanks c = others_are_made c.args.code.now c.in_ok-member-in-RegionEnd.member c.args.blanks.now.items c.pop.new.self.items c.requires.blanks c.in_ok-member-in-RegionEnd.ensures.items
 
 pub returns-in_default : goal.returns-in_default
 returns-in_default c =

@@ -14,9 +14,6 @@ decreases-chain_value l = 8589934592 * l.node + l.levels + 1
 abbrev pub decreases-node_cell : goal.decreases-node_cell
 decreases-node_cell l = 8589934592 * l.node + 2
 
-abbrev pub decreases-unary : goal.decreases-unary
-decreases-unary l = 8589934592 * l.node + 2
-
 abbrev pub decreases-joined : goal.decreases-joined
 decreases-joined l = 8589934592 * l.node + 1
 

@@ -1,8 +1,8 @@
 use Rattle.omp_board.proofs.Beside.{initial_fits, member_counted, member_fits, parent_there, region_there, task_fits}
 use Rattle.omp_board.proofs.board.Board.occur.Goals as goal
 
-pub begin_initial-requires : goal.begin_initial-requires
-begin_initial-requires c = initial_fits _ _ (rw c.in-InitialTaskBegin.is at c.requires.fits)
+pub take_up-requires : goal.take_up-requires
+take_up-requires c = initial_fits _ _ (rw c.in-InitialTaskBegin.is at c.requires.fits)
 
 pub join-requires-clause-place : goal.join-requires-clause-place
 join-requires-clause-place c = region_there _ _ _ _ c.requires.made (rw c.in-MemberBegin.is at c.requires.meets)
@@ -16,5 +16,5 @@ join-requires-clause-few c = member_counted _ _ _ _ (rw c.in-MemberBegin.is at c
 pub join-requires-clause-stack : goal.join-requires-clause-stack
 join-requires-clause-stack c = member_fits _ _ _ _ (rw c.in-MemberBegin.is at c.requires.fits)
 
-pub take_up-requires : goal.take_up-requires
-take_up-requires c = task_fits _ _ _ _ (rw c.in-TaskBegin.is at c.requires.fits)
+pub take_up-requires-in-TaskBegin : goal.take_up-requires-in-TaskBegin
+take_up-requires-in-TaskBegin c = task_fits _ _ _ _ (rw c.in-TaskBegin.is at c.requires.fits)

@@ -38,7 +38,7 @@ pub returns-in-Quiet-clause-rest : goal.returns-in-Quiet-clause-rest
 returns-in-Quiet-clause-rest c =
     gone_on c.self.inside.code c.self.inside.list.items c.self.inside.cells _ c.args.self.now c.self.view_is c.args.task c.in-Some.kept.now (c.in-Some.ensures.item.3.1 kept_nothing)
     c.in-Some-control.control c.advance-next.new.self c.advance-next.new.cells c.in-Some-control.is c.in-Some.ensures.item.3.0 (room_after c.advance-next.result) _
-    (ap (λ (next : Next). room_after next (record { task = c.self.inside.room.task; steps = c.self.inside.room.steps; passes = c.self.inside.room.passes; tasks = c.self.inside.room.tasks })) (sym c.in-Quiet.is))
+    (ap (λ (next : Next). room_after next c.self.inside.room) (sym c.in-Quiet.is))
 
 pub returns-in_default-next : goal.returns-in_default-next
 returns-in_default-next c =

@@ -13,8 +13,10 @@ returns-clause-made c =
 pub invariant_of-self-2 : goal.invariant_of-self-2
 invariant_of-self-2 c =
     let control = c.in-Some-control.control in
-    let made = c.try_steps-made in
-    kept_stepped c.self.inside.code c.self.inside.list.items _ _ _ c.self.invariant c.args.task made.result c.in-Some.kept.now control made.new.self (c.in-Some.ensures.item.3.1 kept_nothing) c.in-Some-control.is c.in-Some.ensures.item.3.0
-    (ap (λ (view : TasksView). view.room.task) c.self.view_is ∙ c.requires.room.of_task)
-    (spare_left c.self.inside.code c.args.view made.result control made.new.self c.self.inside.cells made.new.cells made.ensures.tried)
-    (passes_left c.self.inside.code c.args.view made.result control made.new.self c.self.inside.cells made.new.cells made.ensures.tried) made.ensures.made
+    let made = c.try_steps-made in (
+      kept_stepped c.self.inside.code c.self.inside.list.items _ _ _ c.self.invariant.0 c.args.task made.result c.in-Some.kept.now control made.new.self (c.in-Some.ensures.item.3.1 kept_nothing) c.in-Some-control.is c.in-Some.ensures.item.3.0
+          (ap (λ (view : TasksView). view.room.task) c.self.view_is ∙ c.requires.room.of_task)
+          (spare_left c.self.inside.code c.args.view made.result control made.new.self c.self.inside.cells made.new.cells made.ensures.tried)
+          (passes_left c.self.inside.code c.args.view made.result control made.new.self c.self.inside.cells made.new.cells made.ensures.tried) made.ensures.made,
+      c.self.invariant.1,
+    )

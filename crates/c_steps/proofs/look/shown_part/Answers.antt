@@ -1,5 +1,5 @@
 use Rattle.c_steps.proofs.Looking.{instead_leave, instead_next}
-use Rattle.c_steps.proofs.look.look_at_parts.Goals as goal
+use Rattle.c_steps.proofs.look.shown_part.Goals as goal
 
 pub returns-in_default : goal.returns-in_default
 returns-in_default c = instead_leave c.args.code.now c.args.block c.args.place c.args.at c.args.names c.in_default.ensures.parts
