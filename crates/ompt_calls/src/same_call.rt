@@ -1,4 +1,4 @@
-//! Which calls are equal.
+//! Which calls are equal. Derived, the comparison would have an arm for each callback, and each arm a proof; over the arguments it has one.
 
 ghost use Rattle.std.specs.Prelude.{nat_eq};
 ghost use Rattle.std.specs.Cmp.{and_equiv, nat_eq_equiv, on_equiv, partial_equiv_from_equiv};
