@@ -130,7 +130,7 @@ fn call_of_mutex(board: &Board, thread: u8, event: Event) -> Call
     }
 }
 
-/// The call of an event beside all code: of a thread, of an implicit task, or where a thread goes from one task to another.
+/// The call of an event of a thread or of an implicit task, or where a thread goes from one task to another.
 #[tactic(auto, unfolding(omp_model::specs::Calls::call_of))]
 fn call_beside_code(board: &Board, thread: u8, event: Event) -> Call
     requires { IsBeside event }
