@@ -2,7 +2,7 @@
 use Rattle.std.specs.Prelude.{◌≡◌, ℕ, ◌<◌, ◌≤◌, Bool, slice_get, Option, Some, None, Result, Ok, Err}
 use Rattle.c_syntax.specs.language.Numbered.{TreeView, tree_at}
 use Rattle.c_model.specs.declared.point.Point.{Point}
-use Rattle.c_model.specs.declared.point.Point.TheVariants.{TaskCreate}
+use Rattle.c_model.specs.declared.point.Point.TheVariants as point
 use Rattle.c_model.specs.declared.point.Work.{Work}
 use Rattle.c_model.specs.declared.point.Work.TheVariants as work
 use Rattle.c_model.specs.declared.point.WorkKind.TheVariants as work_kind
@@ -36,7 +36,7 @@ pub record IsCreator (program : TreeView) (W : World) (t : ℕ) : Type 0 where
   pub cells : HasCells program (moment_of W t)
 
 abbrev pub MayCreate : TreeView → World → ℕ → Point → Type 0
-MayCreate program W t (TaskCreate codeptr undeferred) = IsCreator program W t
+MayCreate program W t (point.TaskCreate codeptr undeferred) = IsCreator program W t
 MayCreate program W t other = Unit {0}
 
 -- there is room for the code of the thread's task to go past an event
@@ -69,3 +69,40 @@ abbrev pub work_event : ℕ → Work → Bool → Event
 work_event codeptr (work.Loop start count step how) executes = event.Work Begin work_kind.Loop count codeptr
 work_event codeptr (work.Sections count) executes = event.Work Begin work_kind.Sections count codeptr
 work_event codeptr work.Single executes = event.Work Begin (single_kind executes) 1 codeptr
+
+-- the place in the text of an event of a task's code
+abbrev pub place_of : Point → ℕ
+place_of (point.ParallelBegin codeptr requested) = codeptr
+place_of (point.ParallelEnd codeptr) = codeptr
+place_of (point.TaskCreate codeptr undeferred) = codeptr
+place_of (point.WorkBegin codeptr what) = codeptr
+place_of (point.WorkEnd codeptr which count) = codeptr
+place_of (point.MaskedBegin codeptr) = codeptr
+place_of (point.MaskedEnd codeptr) = codeptr
+place_of (point.Sync codeptr which at) = codeptr
+place_of (point.MutexAcquire codeptr wait_id which to) = codeptr
+place_of (point.MutexAcquired codeptr wait_id which) = codeptr
+place_of (point.MutexReleased codeptr wait_id which) = codeptr
+place_of (point.LockInit codeptr wait_id) = codeptr
+place_of (point.LockDestroy codeptr wait_id) = codeptr
+
+-- an event beside all code, but a share's
+abbrev pub IsBeside : Event → Type 0
+IsBeside event.ThreadBegin = Unit {0}
+IsBeside event.ThreadEnd = Unit {0}
+IsBeside event.InitialTaskBegin = Unit {0}
+IsBeside event.InitialTaskEnd = Unit {0}
+IsBeside (event.MemberBegin r k) = Unit {0}
+IsBeside (event.MemberEnd r k) = Unit {0}
+IsBeside (event.TaskBegin prior task) = Unit {0}
+IsBeside (event.TaskEnd task) = Unit {0}
+IsBeside other = ⊥
+
+-- .. or an event of a lock or critical
+abbrev pub IsMutexOrBeside : Event → Type 0
+IsMutexOrBeside (event.MutexAcquire which wait_id codeptr) = Unit {0}
+IsMutexOrBeside (event.MutexAcquired which wait_id codeptr) = Unit {0}
+IsMutexOrBeside (event.MutexReleased which wait_id codeptr) = Unit {0}
+IsMutexOrBeside (event.LockInit wait_id codeptr) = Unit {0}
+IsMutexOrBeside (event.LockDestroy wait_id codeptr) = Unit {0}
+IsMutexOrBeside other = IsBeside other

@@ -1,7 +1,8 @@
-//! The call of an event. It is a table: an arm an event, with the arguments of its call.
+//! The call of an event: a table in three functions, an arm an event, with the arguments of its call.
 
 ghost use Rattle.std.specs.Prelude.{◌≡◌};
 ghost use Rattle.omp_model.specs.Calls as calls;
+ghost use Rattle.omp_board.specs.Events.{IsBeside, IsMutexOrBeside};
 
 use crate::board::{Board, sync_number};
 use crate::call_parts::{
@@ -22,29 +23,6 @@ pub fn call_of(board: &Board, thread: u8, event: Event) -> Call
     ensures { result ≡ calls.call_of board.now.world thread event }
 {
     match event {
-        Event::ThreadBegin => Call::ThreadBegin {
-            kind: thread_kind(thread),
-            thread: board.thread_word(thread),
-        },
-        Event::ThreadEnd => Call::ThreadEnd {
-            thread: board.thread_word(thread),
-        },
-        Event::InitialTaskBegin => Call::ImplicitTask {
-            endpoint: endpoints::BEGIN,
-            region: board.region_word(IMPLICIT_REGION),
-            task: board.task_word(INITIAL_TASK),
-            actual: 1,
-            index: 1,
-            flags: INITIAL,
-        },
-        Event::InitialTaskEnd => Call::ImplicitTask {
-            endpoint: endpoints::END,
-            region: NULL_WORD,
-            task: board.task_word(INITIAL_TASK),
-            actual: 0,
-            index: 1,
-            flags: INITIAL,
-        },
         Event::ParallelBegin {
             region,
             requested,
@@ -63,22 +41,6 @@ pub fn call_of(board: &Board, thread: u8, event: Event) -> Call
             flags: parallel_flags::TEAM_OF_PROGRAM,
             codeptr,
         },
-        Event::MemberBegin { region, task } => Call::ImplicitTask {
-            endpoint: endpoints::BEGIN,
-            region: board.region_word(region),
-            task: board.task_word(task),
-            actual: u32::from(board.regions.head(region).size),
-            index: u32::from(board.member_index(thread, region)),
-            flags: IMPLICIT,
-        },
-        Event::MemberEnd { region, task } => Call::ImplicitTask {
-            endpoint: endpoints::END,
-            region: NULL_WORD,
-            task: board.task_word(task),
-            actual: 0,
-            index: u32::from(board.member_index(thread, region)),
-            flags: IMPLICIT,
-        },
         Event::TaskCreate { task, codeptr, .. } => Call::TaskCreate {
             task: own_task_word(board, thread),
             frame: current_frame(board, thread, event),
@@ -86,16 +48,6 @@ pub fn call_of(board: &Board, thread: u8, event: Event) -> Call
             flags: task_flags(board.pool.task(task).kind),
             has_dependences: 0,
             codeptr,
-        },
-        Event::TaskBegin { prior, task } => Call::TaskSchedule {
-            prior: board.task_word(prior),
-            status: task_statuses::SWITCH,
-            next: board.task_word(task),
-        },
-        Event::TaskEnd { task } => Call::TaskSchedule {
-            prior: board.task_word(task),
-            status: task_statuses::COMPLETE,
-            next: own_task_word(board, thread),
         },
         Event::Work {
             endpoint,
@@ -122,6 +74,17 @@ pub fn call_of(board: &Board, thread: u8, event: Event) -> Call
             stage,
             codeptr,
         } => sync_call(board, thread, kind, codeptr, stage),
+        _ => call_of_mutex(board, thread, event),
+    }
+}
+
+/// The call of an event of a lock or critical, or of an event beside all code.
+#[tactic(auto, unfolding(omp_model::specs::Calls::call_of))]
+fn call_of_mutex(board: &Board, thread: u8, event: Event) -> Call
+    requires { IsMutexOrBeside event }
+    ensures { result ≡ calls.call_of board.now.world thread event }
+{
+    match event {
         Event::MutexAcquire {
             kind,
             wait_id,
@@ -163,6 +126,66 @@ pub fn call_of(board: &Board, thread: u8, event: Event) -> Call
             wait_id,
             codeptr,
         },
+        _ => call_beside_code(board, thread, event),
+    }
+}
+
+/// The call of an event of a thread or of an implicit task, or where a thread goes from one task to another.
+#[tactic(auto, unfolding(omp_model::specs::Calls::call_of))]
+fn call_beside_code(board: &Board, thread: u8, event: Event) -> Call
+    requires { IsBeside event }
+    ensures { result ≡ calls.call_of board.now.world thread event }
+{
+    match event {
+        Event::ThreadBegin => Call::ThreadBegin {
+            kind: thread_kind(thread),
+            thread: board.thread_word(thread),
+        },
+        Event::InitialTaskBegin => Call::ImplicitTask {
+            endpoint: endpoints::BEGIN,
+            region: board.region_word(IMPLICIT_REGION),
+            task: board.task_word(INITIAL_TASK),
+            actual: 1,
+            index: 1,
+            flags: INITIAL,
+        },
+        Event::InitialTaskEnd => Call::ImplicitTask {
+            endpoint: endpoints::END,
+            region: NULL_WORD,
+            task: board.task_word(INITIAL_TASK),
+            actual: 0,
+            index: 1,
+            flags: INITIAL,
+        },
+        Event::MemberBegin { region, task } => Call::ImplicitTask {
+            endpoint: endpoints::BEGIN,
+            region: board.region_word(region),
+            task: board.task_word(task),
+            actual: u32::from(board.regions.head(region).size),
+            index: u32::from(board.member_index(thread, region)),
+            flags: IMPLICIT,
+        },
+        Event::MemberEnd { region, task } => Call::ImplicitTask {
+            endpoint: endpoints::END,
+            region: NULL_WORD,
+            task: board.task_word(task),
+            actual: 0,
+            index: u32::from(board.member_index(thread, region)),
+            flags: IMPLICIT,
+        },
+        Event::TaskBegin { prior, task } => Call::TaskSchedule {
+            prior: board.task_word(prior),
+            status: task_statuses::SWITCH,
+            next: board.task_word(task),
+        },
+        Event::TaskEnd { task } => Call::TaskSchedule {
+            prior: board.task_word(task),
+            status: task_statuses::COMPLETE,
+            next: own_task_word(board, thread),
+        },
+        _ => Call::ThreadEnd {
+            thread: board.thread_word(thread),
+        },
     }
 }
 
@@ -173,31 +196,21 @@ fn sync_call(board: &Board, thread: u8, kind: SyncKind, codeptr: u64, stage: Syn
     let region = synced_region(board, thread, kind, stage);
     let task = own_task_word(board, thread);
     let kind = sync_number(kind);
+    let endpoint = match stage {
+        SyncStage::RegionBegin | SyncStage::WaitBegin => endpoints::BEGIN,
+        SyncStage::WaitEnd | SyncStage::RegionEnd => endpoints::END,
+    };
     match stage {
-        SyncStage::RegionBegin => Call::SyncRegion {
+        SyncStage::RegionBegin | SyncStage::RegionEnd => Call::SyncRegion {
             kind,
-            endpoint: endpoints::BEGIN,
+            endpoint,
             region,
             task,
             codeptr,
         },
-        SyncStage::WaitBegin => Call::SyncRegionWait {
+        SyncStage::WaitBegin | SyncStage::WaitEnd => Call::SyncRegionWait {
             kind,
-            endpoint: endpoints::BEGIN,
-            region,
-            task,
-            codeptr,
-        },
-        SyncStage::WaitEnd => Call::SyncRegionWait {
-            kind,
-            endpoint: endpoints::END,
-            region,
-            task,
-            codeptr,
-        },
-        SyncStage::RegionEnd => Call::SyncRegion {
-            kind,
-            endpoint: endpoints::END,
+            endpoint,
             region,
             task,
             codeptr,
@@ -209,23 +222,16 @@ fn sync_call(board: &Board, thread: u8, kind: SyncKind, codeptr: u64, stage: Syn
 fn dispatch_call(board: &Board, thread: u8, share: Share) -> Call
     ensures { result ≡ calls.dispatch_call board.now.world thread share }
 {
-    let region = own_region_word(board, thread);
-    let task = own_task_word(board, thread);
-    match share {
-        Share::Chunk { start, count } => Call::Dispatch {
-            region,
-            task,
-            kind: dispatch_kinds::WS_LOOP_CHUNK,
-            start,
-            iterations: count,
-        },
-        Share::Section(codeptr) => Call::Dispatch {
-            region,
-            task,
-            kind: dispatch_kinds::SECTION,
-            start: codeptr,
-            iterations: 0,
-        },
+    let (kind, start, iterations) = match share {
+        Share::Chunk { start, count } => (dispatch_kinds::WS_LOOP_CHUNK, start, count),
+        Share::Section(codeptr) => (dispatch_kinds::SECTION, codeptr, 0),
+    };
+    Call::Dispatch {
+        region: own_region_word(board, thread),
+        task: own_task_word(board, thread),
+        kind,
+        start,
+        iterations,
     }
 }
 

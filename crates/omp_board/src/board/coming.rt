@@ -18,7 +18,7 @@ ghost use Rattle.omp_model.specs.MadeWorld.{IsMadeWorld};
 ghost use Rattle.omp_model.specs.Members.{code_of, current, moment_of, view_of};
 ghost use Rattle.omp_board.specs.Answering.{IsSettled};
 ghost use Rattle.omp_board.specs.Board.{HasEvent, HasStep, IsGoing, IsGoOfRuntime, IsGoingTo};
-ghost use Rattle.omp_board.specs.Events.{HasComeTo, HasGo, HasPassing, work_event};
+ghost use Rattle.omp_board.specs.Events.{HasComeTo, HasGo, HasPassing, place_of, work_event};
 ghost use Rattle.omp_board.specs.Tasks.{IsNamedIn, IsStill};
 
 use crate::board::Board;
@@ -139,82 +139,59 @@ impl Board {
         requires { executes ≡ effects.executes_point self.now.world thread point }
         ensures { result ≡ effects.event_of_point self.now.world thread point }
     {
+        let codeptr = codeptr_of(point);
         match point {
-            Point::ParallelBegin { codeptr, requested } => Event::ParallelBegin {
+            Point::ParallelBegin { requested, .. } => Event::ParallelBegin {
                 region: self.regions.next(),
                 requested: requested.unsigned_abs(),
                 codeptr,
             },
-            Point::ParallelEnd { codeptr } => Event::ParallelEnd {
+            Point::ParallelEnd { .. } => Event::ParallelEnd {
                 region: self.tasks.forked(self.current(thread)),
                 codeptr,
             },
-            Point::TaskCreate {
-                codeptr,
-                undeferred,
-            } => Event::TaskCreate {
+            Point::TaskCreate { undeferred, .. } => Event::TaskCreate {
                 task: self.tasks.next(),
                 undeferred,
                 codeptr,
             },
-            Point::WorkBegin { codeptr, work } => work_begin(codeptr, work, executes),
-            Point::WorkEnd {
-                codeptr,
-                kind,
-                count,
-            } => Event::Work {
+            Point::WorkBegin { work, .. } => work_begin(codeptr, work, executes),
+            Point::WorkEnd { kind, count, .. } => Event::Work {
                 endpoint: Endpoint::End,
                 kind,
                 count,
                 codeptr,
             },
-            Point::MaskedBegin { codeptr } => Event::Masked {
+            Point::MaskedBegin { .. } => Event::Masked {
                 endpoint: Endpoint::Begin,
                 codeptr,
             },
-            Point::MaskedEnd { codeptr } => Event::Masked {
+            Point::MaskedEnd { .. } => Event::Masked {
                 endpoint: Endpoint::End,
                 codeptr,
             },
-            Point::Sync {
-                codeptr,
-                kind,
-                stage,
-            } => Event::Sync {
+            Point::Sync { kind, stage, .. } => Event::Sync {
                 kind,
                 stage,
                 codeptr,
             },
-            Point::MutexAcquire {
-                codeptr,
-                wait_id,
-                kind,
-                ..
-            } => Event::MutexAcquire {
+            Point::MutexAcquire { wait_id, kind, .. } => Event::MutexAcquire {
                 kind,
                 wait_id,
                 codeptr,
             },
-            Point::MutexAcquired {
-                codeptr,
-                wait_id,
-                kind,
-            } => Event::MutexAcquired {
+            Point::MutexAcquired { wait_id, kind, .. } => Event::MutexAcquired {
                 kind,
                 wait_id,
                 codeptr,
             },
-            Point::MutexReleased {
-                codeptr,
-                wait_id,
-                kind,
-            } => Event::MutexReleased {
+            Point::MutexReleased { wait_id, kind, .. } => Event::MutexReleased {
                 kind,
                 wait_id,
                 codeptr,
             },
-            Point::LockInit { codeptr, wait_id } => Event::LockInit { wait_id, codeptr },
-            Point::LockDestroy { codeptr, wait_id } => Event::LockDestroy { wait_id, codeptr },
+            Point::LockInit { wait_id, .. } => Event::LockInit { wait_id, codeptr },
+            Point::LockDestroy { wait_id, .. } => Event::LockDestroy { wait_id, codeptr },
         }
     }
 
@@ -244,6 +221,27 @@ impl Board {
     {
         let task = self.current(thread);
         self.tasks.pass(task, point, node, executes);
+    }
+}
+
+/// The place in the text of the event at this point.
+fn codeptr_of(point: Point) -> u64
+    ensures { result ≡ place_of point }
+{
+    match point {
+        Point::ParallelBegin { codeptr, .. }
+        | Point::ParallelEnd { codeptr }
+        | Point::TaskCreate { codeptr, .. }
+        | Point::WorkBegin { codeptr, .. }
+        | Point::WorkEnd { codeptr, .. }
+        | Point::MaskedBegin { codeptr }
+        | Point::MaskedEnd { codeptr }
+        | Point::Sync { codeptr, .. }
+        | Point::MutexAcquire { codeptr, .. }
+        | Point::MutexAcquired { codeptr, .. }
+        | Point::MutexReleased { codeptr, .. }
+        | Point::LockInit { codeptr, .. }
+        | Point::LockDestroy { codeptr, .. } => codeptr,
     }
 }
 
