@@ -1,6 +1,6 @@
 mod Counting
 pub mod Histories
-mod Storing
+pub mod Storing
 pub mod Telling
 pub mod Visiting
 pub mod Lists
