@@ -8,7 +8,7 @@ use Rattle.omp_model.{specs.declared.event.Outcome.TheVariants.Happens, specs.de
 use Rattle.omp_model.{specs.Running.HasRun, specs.Serial.enabled_among, proofs.SerialLaws.serial-whole, proofs.Replies.may-store}
 use Rattle.omp_machine.proofs.Telling.{IsTold, IsUntold}
 use Rattle.step_book.proofs.{Storing.inside-all, Storing.stores-few, Telling.HasUntold, Telling.IsAlone, Visiting.inside-told}
-use Rattle.team_run.specs.Names.{Call, Snapshot, Item, Stored, stores_of, Entry, Callback, Cause, Event, Outcome, Run, State, pending_at, call_of, snap_of, turn, called, after, put_from, back_from, back, heard, first_enabled, inside_after, StoresNothing, go_at, event_reply, none_pending, cause_of, BookView, state_of, with_entries, turn_visit, Record}
+use Rattle.team_run.specs.Names.{Call, Snapshot, Stored, item_of, stores_of, Entry, Callback, Cause, Event, Outcome, Run, State, pending_at, call_of, snap_of, turn, called, after, put_from, back_from, back, heard, first_enabled, inside_after, StoresNothing, go_at, event_reply, none_pending, cause_of, BookView, state_of, with_entries, turn_visit, Record}
 use Rattle.team_run.specs.Serving.{AreSame, Serves, ServesTo, OnlyUnheard, Answers}
 use Rattle.team_run.specs.Standing.{AreSilent, HearsOwn, HearsSilent, StandsAt, StopsAt}
 use Rattle.team_run.proofs.Serving.{serves-told, serves-unheard, served-nil, told-silent, own-told, own-unheard, heard_of-same}
@@ -202,11 +202,6 @@ module _ (run : Run) (from : ℕ) (H : List Entry) (t : ℕ) (stands : StandsAt 
     abbrev e : Event
     e = said.event
 
-    -- the item that is heard of it, with these stores
-    abbrev item_with : List Stored → Item
-    item_with stores =
-        record { seq = length H; thread = t; call = call_of between.world t e; snapshot = snap_of between.world t e; stores = stores }
-
     -- after the answer of the thread's part
     pub visited-said : (seq : ℕ) → seq ≡ length H → (longer : List Entry)
         → Answers stands_for seq t call snapshot parts (H ++ go_at t ∷ []) others longer
@@ -214,18 +209,19 @@ module _ (run : Run) (from : ℕ) (H : List Entry) (t : ℕ) (stands : StandsAt 
     visited-said seq seq_is longer said_so =
         let answers = rw (seq_is, ← said.call_is, ← said.snapshot_is) at said_so in
         let stores : List Stored = stores_of answers.reply (snap_of between.world t e) in
+        let item = item_of (length H) t (call_of between.world t e) (snap_of between.world t e) answers.reply in
         let whole = H ++ event_at t stores in
         let history : longer ≡ whole = answers.history_is ∙ append_assoc H (go_at t ∷ []) (event_reply t stores) in
-        let more : heard run whole ≡ heard run H ++ item_with stores ∷ [] =
+        let more : heard run whole ≡ heard run H ++ item ∷ [] =
         heard-event t e stores stands.has_run said.happens ∙ ap (λ said. heard run H ++ said) (rw said.registered refl) in
         let under : t < run.threads = omega (arith, below) in
         let waits = inside-all run between t e 0 stores (record { pending = inside-event e said.happens; registered = said.registered }) in
         subst (λ K. Visited stands_for run H t parts others K) (sym history)
         (visited-event stands_for parts others e said.happens stores (stores-few answers.reply (snap_of between.world t e))
         (may-store run H t e stands.some said.happens answers.reply said.registered) waits
-        (own-told run H whole t (item_with stores) refl under more stands.own)
-        (told-silent run H whole t (item_with stores) refl more under)
-        (serves-told stands_for run parts others H whole t (item_with stores) refl more answers.as_many answers.each))
+        (own-told run H whole t item refl under more stands.own)
+        (told-silent run H whole t item refl more under)
+        (serves-told stands_for run parts others H whole t item refl more answers.as_many answers.each))
 
     -- where the part found no memory, nothing more was heard, and the history ends inside the callback
     pub serves-said : OnlyUnheard stands_for (Some t) parts others → ServesTo stands_for run parts H others (H ++ go_at t ∷ [])
