@@ -81,14 +81,6 @@ kept-set is slots others place none next kept within goes = record {
   ];
 }
 
--- a list that was changed twice
-pub kept-then : {P L : Type 0} (is : ℕ → P → L → Type 0) (slots between others : List L) → AreKept is slots between
-    → AreKept is between others → AreKept is slots others
-kept-then is slots between others one two = record {
-  as_many = two.as_many ∙ one.as_many;
-  each = λ k d t whose below there. two.each k d t whose (omega (arith, below, one.as_many)) (one.each k d t whose below there);
-}
-
 -- What a closed book says.
 
 -- nothing is heard on a thread that the run doesn't have
