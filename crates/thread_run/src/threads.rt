@@ -2,7 +2,7 @@
 
 ghost use Rattle.std.specs.Prelude.{◌≡◌, ◌≢◌, ◌≤◌, Some, IfOk, false, length};
 ghost use Rattle.thread_run.specs.Drivers.{CanDrive, HasServed, HaveComeBack};
-ghost use Rattle.team_run.specs.Program.{IsRan, run_of};
+ghost use Rattle.team_run.specs.Program.{IsRanOf};
 
 use crate::team::{Slot, Stays, drive_here, finish_all, start_all};
 use c_check::Program;
@@ -32,8 +32,7 @@ pub fn run_threads<R: Threads + Wait + Sync, P: ToolPart>(
     mut parts: Vec<P>,
 ) -> Result<Ran<P>, Memory>
     requires { length parts.items ≡ limits.threads }
-    ensures ran { IfOk result (λ ran.
-        IsRan P.stands_for P.same false (run_of program limits.threads limits.steps ran) parts.items ran) }
+    ensures ran { IfOk result (IsRanOf P.stands_for P.same false program limits.threads limits.steps parts.items) }
 {
     let start = initialize_first(&mut parts);
     let mask = mask_of(start);
