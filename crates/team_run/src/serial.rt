@@ -3,7 +3,7 @@
 ghost use Rattle.std.specs.Prelude.{◌≡◌, IfOk, length, true};
 ghost use Rattle.team_run.specs.Program.{IsRanOf};
 
-use crate::edges::{finalize_first, initialize_first, mask_of};
+use crate::edges::{finalize_first, initialize_first};
 use crate::ran::{Memory, Ran};
 use crate::serial_run::SerialRun;
 use c_check::Program;
@@ -26,8 +26,7 @@ pub fn run_serial<P: ToolPart>(
     ensures ran { IfOk result (IsRanOf P.stands_for P.same true program limits.threads limits.steps parts.items) }
 {
     let start = initialize_first(&mut parts);
-    let mask = mask_of(start);
-    let book = Book::start(alloc, program, mask, limits)?;
+    let book = Book::start(alloc, program, start.mask, limits)?;
     let mut run = SerialRun {
         book,
         parts,
@@ -41,7 +40,7 @@ pub fn run_serial<P: ToolPart>(
     let Closed { history, text, .. } = run.book.close();
     Ok(Ran {
         cause,
-        mask,
+        mask: start.mask,
         history,
         text,
         parts: run.parts,

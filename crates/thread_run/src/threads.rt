@@ -16,7 +16,7 @@ use std::sync::atomic::AtomicBool;
 use std::thread::Threads;
 use std::{array, thread};
 use step_book::{Blank, BookName, Closed, Pass, SharedBook};
-use team_run::{Memory, Ran, finalize_first, initialize_first, mask_of};
+use team_run::{Memory, Ran, finalize_first, initialize_first};
 use tool_api::ToolPart;
 
 /// Runs the program with each thread number on a thread of its own, or driven by the caller where that can't be started. What the parts are
@@ -35,8 +35,7 @@ pub fn run_threads<R: Threads + Wait + Sync, P: ToolPart>(
     ensures ran { IfOk result (IsRanOf P.stands_for P.same false program limits.threads limits.steps parts.items) }
 {
     let start = initialize_first(&mut parts);
-    let mask = mask_of(start);
-    let blank = Blank::new(alloc, program, mask, limits)?;
+    let blank = Blank::new(alloc, program, start.mask, limits)?;
     let (closed, mut parts) = run_team::<R, Brand, P>(rt, alloc, blank, parts)?;
     let cause = known_cause(closed.cause);
     if cause == Cause::Memory && closed.history.as_slice().is_empty() {
@@ -46,7 +45,7 @@ pub fn run_threads<R: Threads + Wait + Sync, P: ToolPart>(
     let Closed { history, text, .. } = closed;
     Ok(Ran {
         cause,
-        mask,
+        mask: start.mask,
         history,
         text,
         parts,
