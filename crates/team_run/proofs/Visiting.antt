@@ -7,8 +7,8 @@ use Rattle.omp_model.proofs.Recording.{HasRun-start, HasRun-after, HasRun-alone,
 use Rattle.omp_model.{specs.declared.event.Outcome.TheVariants.Happens, specs.declared.event.Halt.Halt, specs.Cause.whole_value, specs.Cause.is_stuck, specs.Cause.cause_of_whole, specs.Cause.cause_by_halt, specs.Storing.put_all, specs.Storing.MayStore, specs.Legal.put}
 use Rattle.omp_model.{specs.Running.HasRun, specs.Serial.enabled_among, proofs.SerialLaws.serial-whole, proofs.Replies.may-store}
 use Rattle.omp_machine.proofs.Telling.{IsTold, IsUntold}
-use Rattle.step_book.proofs.{Storing.inside-all, Storing.stores-few, Telling.HasUntold, Telling.IsAlone, Visiting.inside-told}
-use Rattle.team_run.specs.Names.{Call, Snapshot, Stored, item_of, stores_of, Entry, Callback, Cause, Event, Outcome, Run, State, pending_at, call_of, snap_of, turn, called, after, put_from, back_from, back, heard, first_enabled, inside_after, StoresNothing, go_at, event_reply, none_pending, cause_of, BookView, state_of, with_entries, turn_visit, Record}
+use Rattle.step_book.proofs.{Storing.inside-all, Storing.stores-few, Visiting.inside-told}
+use Rattle.team_run.specs.Names.{Call, Snapshot, Stored, item_of, stores_of, Entry, Callback, Cause, Event, Outcome, Run, State, pending_at, call_of, snap_of, turn, called, after, put_from, back_from, back, heard, first_enabled, inside_after, StoresNothing, go_at, event_reply, none_pending, cause_of, Record}
 use Rattle.team_run.specs.Serving.{AreSame, Serves, ServesTo, OnlyUnheard, Answers}
 use Rattle.team_run.specs.Standing.{AreSilent, HearsOwn, HearsSilent, StandsAt, StopsAt}
 use Rattle.team_run.proofs.Serving.{serves-told, serves-unheard, served-nil, told-silent, own-told, own-unheard, heard_of-same}
@@ -236,27 +236,6 @@ module _ (run : Run) (from : ℕ) (H : List Entry) (t : ℕ) (stands : StandsAt 
       };
       serves = serves-unheard stands_for run parts others H (H ++ go_at t ∷ []) (Some t) (heard-pending t e stands.has_run said.happens) kept;
     }
-
--- a visit that told nothing: what was added, and what is so afterwards
-pub record QuietVisit {P : Type 0} (stands_for : P → Record → Type 0) (book next : BookView) (t : ℕ) (parts : List P) : Type 0 where
-  pub added : List Entry
-  pub whole : next ≡ with_entries book added
-  pub visited : Visited stands_for book.run book.history t parts parts (book.history ++ added)
-
-module _ (book next : BookView) (from t : ℕ) (stands : StandsAt book.run from book.history) (turns : first_enabled book.run (state_of book) from ≡ Some t) (added : next ≡ with_entries book (turn_visit book t).added) {P : Type 0} (stands_for : P → Record → Type 0) (parts : List P) where
-  pub alone-visit : IsAlone book t → QuietVisit stands_for book next t parts
-  alone-visit alone = record {
-    added = go_at t ∷ [];
-    whole = added ∙ ap (with_entries book) alone.added_is;
-    visited = visited-alone book.run from book.history t stands turns stands_for parts alone.none;
-  }
-
-  pub untold-visit : HasUntold book t → QuietVisit stands_for book next t parts
-  untold-visit untold = record {
-    added = event_at t [];
-    whole = added ∙ ap (with_entries book) untold.added_is;
-    visited = visited-untold book.run from book.history t stands turns stands_for parts untold.is_untold;
-  }
 
 -- what a run that has stopped has come to
 pub have-served : {P : Type 0} (stands_for : P → Record → Type 0) (Same : P → P → Type 0) (run : Run) (next : ℕ)
