@@ -139,7 +139,7 @@ is-ran {P} stands_for Same onward is_serial run ran parts started between answer
 
 module _ {P : Type 0} (parts : List P) (t : ℕ) (found part : P) (is : found ≡ slice_index_or parts t found) (within : t < length parts) where
   -- what is so of the part of the thread and of what it became, and of each other part and itself
-  set-each : (so : ℕ → P → P → Type 0) → so t found part → ((k : ℕ) (one : P) → (t == k) ≡ false → so k one one)
+  pub set-each : (so : ℕ → P → P → Type 0) → so t found part → ((k : ℕ) (one : P) → (t == k) ≡ false → so k one one)
       → (k : ℕ) (d : P) → so k (slice_index_or parts k d) (slice_index_or (slice_set parts t part) k d)
   set-each so here others k d = elim (eqb_tells t k) [
     | inl same ↦ rw (← same.1, get_or-set_same parts t part d within, get_or_default parts t d found within, ← is) here
