@@ -270,7 +270,3 @@ have-served {P} stands_for Same run next reason H text parts others serves same 
 pub from_either : {X E : Type 0} (r : Result X E) {A B C : Type 0} → OnOk r A → OnErr r B → (A → C) → (B → C) → C
 from_either (Ok x) ok err f g = f ok
 from_either (Err e) ok err f g = g err
-
-pub from_ok : {X E : Type 0} (r : Result X E) {A C : Type 0} → OnOk r A → (A → C) → OnOk r C
-from_ok (Ok x) ok f = f ok
-from_ok (Err e) ok f = tt

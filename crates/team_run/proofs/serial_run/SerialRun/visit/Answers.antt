@@ -1,7 +1,8 @@
 use Rattle.std.proofs.Common.{◌≡◌, ◌<◌, ◌∙◌, refl, sym, ap, subst, arith, inl, inr, ◌∷◌, [], ◌++◌}
+use Rattle.std.proofs.lemmas.Result.{on_ok_weaker}
 use Rattle.omp_model.{specs.Storing.go_at, proofs.Recording.first_enabled-enabled, proofs.Recording.first_enabled-below}
 use Rattle.step_book.{specs.BookView.BookView, specs.BookView.with_entries, specs.Visit.turn_visit, proofs.Telling.HasUntold, proofs.Telling.IsAlone, proofs.Telling.told-step, proofs.Telling.quiet-step, proofs.Telling.ended-step, proofs.Telling.not_yet-step}
-use Rattle.team_run.proofs.Visiting.{Visited, stops-here, stops-inside, visited-alone, visited-said, visited-untold, serves-said, serves-to, from_either, from_ok}
+use Rattle.team_run.proofs.Visiting.{Visited, stops-here, stops-inside, visited-alone, visited-said, visited-untold, serves-said, serves-to, from_either}
 use Rattle.team_run.{specs.Serving.Answers, proofs.Serving.same-itself}
 use Rattle.team_run.proofs.serial_run.SerialRun.visit.Goals as goal
 
@@ -48,8 +49,8 @@ returns-in-Told g c =
           (λ answered. stops-here _ _ _ (visited answered).stands)
           (λ kept. rw (kept.0, whole) (stops-inside book.run _ book.history t
           c.requires.stands c.requires.turn told.is_told.event told.is_told.happens)));
-      stands = from_ok c.serve.result c.serve.ensures.answers (λ answered. rw (same, c.serve.ensures.next) (visited answered).stands);
-      turns = from_ok c.serve.result c.serve.ensures.answers (λ answered. rw same (visited answered).turns);
+      stands = on_ok_weaker c.serve.result (λ answered. rw (same, c.serve.ensures.next) (visited answered).stands) c.serve.ensures.answers;
+      turns = on_ok_weaker c.serve.result (λ answered. rw same (visited answered).turns) c.serve.ensures.answers;
     }
 
 pub returns-in-Quiet : goal.returns-in-Quiet
