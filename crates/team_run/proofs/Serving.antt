@@ -137,26 +137,21 @@ is-ran {P} stands_for Same onward is_serial run ran parts started between answer
   text = served.text_is;
 }
 
-module _ {P : Type 0} (stands_for : P → Record → Type 0) (parts : List P) (t : ℕ) (found part : P)
-    (is : found ≡ slice_index_or parts t found) (within : t < length parts) where
-  -- the part of the thread was told of an item, and the others are as they were
-  pub told-at : (item : Item) → ((h : Record) → stands_for found h → stands_for part (told h item)) → (k : ℕ) → k < length parts
-      → Becomes stands_for parts (slice_set parts t part) k (told_on t k item)
-  told-at item keeps k below d h stands = elim (eqb_tells t k) [
-    | inl same ↦ rw (same.0, ← same.1, get_or-set_same parts t part d within)
-        (keeps h (rw (← same.1, get_or_default parts t d found within, ← is) at stands))
-    | inr different ↦ rw (different.0, get_or-set_other parts t k part d (λ same. different.1 (sym same))) stands
+module _ {P : Type 0} (parts : List P) (t : ℕ) (found part : P) (is : found ≡ slice_index_or parts t found) (within : t < length parts) where
+  -- what is so of the part of the thread and of what it became, and of each other part and itself
+  pub set-each : (so : ℕ → P → P → Type 0) → so t found part → ((k : ℕ) (one : P) → (t == k) ≡ false → so k one one)
+      → (k : ℕ) (d : P) → so k (slice_index_or parts k d) (slice_index_or (slice_set parts t part) k d)
+  set-each so here others k d = elim (eqb_tells t k) [
+    | inl same ↦ rw (← same.1, get_or-set_same parts t part d within, get_or_default parts t d found within, ← is) here
+    | inr different ↦ rw (get_or-set_other parts t k part d (λ same. different.1 (sym same))) (others k (slice_index_or parts k d) different.0)
   ]
 
--- the part of the thread is the one that it was, and so are the others
-pub same-at : {P : Type 0} (Same : P → P → Type 0) → ((part : P) → Same part part) → (parts : List P) (t : ℕ) (found part : P)
-    → found ≡ slice_index_or parts t found → t < length parts → Same found part
-    → AreSame Same parts (slice_set parts t part)
-same-at {P} Same itself parts t found part is within same = record { each = each }
-  where
-    each : (k : ℕ) (d : P) → k < length parts → Same (slice_index_or parts k d) (slice_index_or (slice_set parts t part) k d)
-    each k d below = elim (eqb_tells t k) [
-      | inl equal ↦ rw (← equal.1, get_or-set_same parts t part d within)
-          (subst (λ p. Same p part) (is ∙ get_or_default parts t found d within) same)
-      | inr different ↦ rw (get_or-set_other parts t k part d (λ equal. different.1 (sym equal))) (itself (slice_index_or parts k d))
-    ]
+  -- the part of the thread was told of an item, and the others are as they were
+  pub told-at : (stands_for : P → Record → Type 0) (item : Item) → ((h : Record) → stands_for found h → stands_for part (told h item)) → (k : ℕ)
+      → k < length parts → Becomes stands_for parts (slice_set parts t part) k (told_on t k item)
+  told-at stands_for item keeps k below = set-each (λ k one other. (h : Record) → stands_for one h → stands_for other (told_on t k item h))
+      (rw (eq-eqb t t refl) keeps) (λ k one different. rw different (λ h stands. stands)) k
+
+  -- it is the same as before, and so are the others
+  pub same-at : (Same : P → P → Type 0) → ((part : P) → Same part part) → Same found part → AreSame Same parts (slice_set parts t part)
+  same-at Same itself same = record { each = λ k d below. set-each (λ k. Same) same (λ k one different. itself one) k d }

@@ -1,15 +1,14 @@
 -- A serial run after one more visit, and at its end.
-use Rattle.std.proofs.Common.{◌≡◌, ◌≢◌, ℕ, ℤ, zero, suc, ◌+◌, ◌<◌, ◌≤◌, Bool, true, List, [], ◌∷◌, ◌++◌, length, length-append, replicate, slice_set, slice_index_or, Option, Some, None, IsSome, is_none, refl, sym, ap, subst, ◌∙◌, arith, append-nil, append_assoc, Result, Ok, Err, OnOk, OnErr}
+use Rattle.std.proofs.Common.{◌≡◌, ◌≢◌, ℕ, ℤ, zero, suc, ◌+◌, ◌<◌, ◌≤◌, Bool, true, List, [], ◌∷◌, ◌++◌, length, replicate, slice_set, slice_index_or, Option, Some, None, IsSome, is_none, refl, sym, ap, subst, ◌∙◌, arith, append-nil, append_assoc, Result, Ok, Err, OnOk, OnErr}
 use Rattle.std.{specs.List.list_all, proofs.lemmas.Bool.true≢false, proofs.lemmas.Bool.and_from, proofs.lemmas.Bool.and_parts, proofs.lemmas.List.set-set}
 use Rattle.omp_model.specs.declared.cause.Cause.TheVariants as cause
 use Rattle.omp_model.proofs.Turns.{Leaves, leaves-turn, turn-pending, turns-rise, back-turns}
 use Rattle.omp_model.proofs.Recording.{HasRun-start, HasRun-after, HasRun-alone, HasRun-event, HasRun-serial, HasRun-whole, HasRun-pending, heard-alone, heard-event, heard-pending, event_at, first_enabled-below, first_enabled-enabled, first_enabled-none, put_all-turns, StoresNothing-append}
 use Rattle.omp_model.{specs.declared.event.Outcome.TheVariants.Happens, specs.declared.event.Halt.Halt, specs.Cause.whole_value, specs.Cause.is_stuck, specs.Cause.cause_of_whole, specs.Cause.cause_by_halt, specs.Storing.put_all, specs.Storing.MayStore, specs.Legal.put}
 use Rattle.omp_model.{specs.Running.HasRun, specs.Serial.enabled_among, proofs.SerialLaws.serial-whole, proofs.Replies.may-store}
-use Rattle.ompt_calls.specs.{Snapshot.target_of, Snapshot.stored, Snapshot.stored_of, declared.reply.Store.Store}
-use Rattle.omp_machine.proofs.{Storing.Inside, Storing.inside-put, Telling.IsTold, Telling.IsUntold}
-use Rattle.step_book.proofs.{Telling.HasUntold, Telling.IsAlone, Visiting.inside-told}
-use Rattle.team_run.specs.Names.{Call, Snapshot, Item, Reply, Stored, stores_of, Entry, Callback, Cause, Event, Outcome, Run, State, pending_at, call_of, snap_of, turn, called, after, put_from, back_from, back, heard, first_enabled, inside_after, StoresNothing, go_at, event_reply, none_pending, cause_of, BookView, state_of, with_entries, turn_visit, Record}
+use Rattle.omp_machine.proofs.Telling.{IsTold, IsUntold}
+use Rattle.step_book.proofs.{Storing.inside-all, Storing.stores-few, Visiting.inside-told}
+use Rattle.team_run.specs.Names.{Call, Snapshot, Stored, item_of, stores_of, Entry, Callback, Cause, Event, Outcome, Run, State, pending_at, call_of, snap_of, turn, called, after, put_from, back_from, back, heard, first_enabled, inside_after, StoresNothing, go_at, event_reply, none_pending, cause_of, Record}
 use Rattle.team_run.specs.Serving.{AreSame, Serves, ServesTo, OnlyUnheard, Answers}
 use Rattle.team_run.specs.Standing.{AreSilent, HearsOwn, HearsSilent, StandsAt, StopsAt}
 use Rattle.team_run.proofs.Serving.{serves-told, serves-unheard, served-nil, told-silent, own-told, own-unheard, heard_of-same}
@@ -50,12 +49,6 @@ nobody-back run S t event stores nobody happens waits =
     back-pending (put_all between t stores) t (pending_at (put_all between t stores) t) waits ∙ put_all-others between t stores ∙ ap (λ pending. slice_set pending t None) (turn-pending run S t event happens) ∙ set-set S.pending t (Some (called event)) None in
     ap all_none same ∙ all_none-set S.pending t nobody
 
--- a thread inside a callback that is registered still is inside one after its stores
-waits-put_all : (run : Run) (S : State) (t : ℕ) (e : Event) (made : ℕ) (stores : List Stored) → Inside run S t e made → IsSome (pending_at (put_all S t stores) t)
-waits-put_all run S t e made [] inside = rw inside.pending refl
-waits-put_all run S t e made (store ∷ rest) inside =
-    waits-put_all run (put S t store.target store.word) t e (made + 1) rest (inside-put run S t e made store.target store.word inside)
-
 -- a turn with no event leaves the callbacks alone
 pub same-pending : (S after : State) (t : ℕ) (o : Outcome) → Leaves S t after o → inside_after o t ≡ None → after.pending ≡ S.pending
 same-pending S after t (Happens event) leaves none = cc
@@ -76,18 +69,6 @@ stands-start run some few = record {
 -- a run may stop where it stands
 pub stops-here : (run : Run) (from : ℕ) (H : List Entry) → StandsAt run from H → StopsAt run H
 stops-here run from H stands = record { serial = HasRun-serial stands.has_run; own = stands.own }
-
--- at most three stores of a reply take effect
-stored_of-few : (snapshot : Snapshot) (store : Option Store) → length (stored_of snapshot store) ≤ 1
-stored_of-few snapshot None = omega arith
-stored_of-few snapshot (Some store) =
-    elim (target_of snapshot store.place) as (λ found. length (stored store.word found) ≤ 1) [
-      | None ↦ omega arith
-      | Some found ↦ omega arith
-    ]
-
-stores-few : (reply : Reply) (snapshot : Snapshot) → length (stores_of reply snapshot) ≤ 3
-stores-few reply snapshot = omega (arith, length-append {A = Stored}, stored_of-few)
 
 -- where no thread can go on and nobody is inside a callback, the run has ended
 caused-by : (run : Run) (S : State) (halt : Option Halt) (value : Option ℤ) → S.halt ≡ halt → whole_value S.world ≡ value
@@ -221,11 +202,6 @@ module _ (run : Run) (from : ℕ) (H : List Entry) (t : ℕ) (stands : StandsAt 
     abbrev e : Event
     e = said.event
 
-    -- the item that is heard of it, with these stores
-    abbrev item_with : List Stored → Item
-    item_with stores =
-        record { seq = length H; thread = t; call = call_of between.world t e; snapshot = snap_of between.world t e; stores = stores }
-
     -- after the answer of the thread's part
     pub visited-said : (seq : ℕ) → seq ≡ length H → (longer : List Entry)
         → Answers stands_for seq t call snapshot parts (H ++ go_at t ∷ []) others longer
@@ -233,18 +209,19 @@ module _ (run : Run) (from : ℕ) (H : List Entry) (t : ℕ) (stands : StandsAt 
     visited-said seq seq_is longer said_so =
         let answers = rw (seq_is, ← said.call_is, ← said.snapshot_is) at said_so in
         let stores : List Stored = stores_of answers.reply (snap_of between.world t e) in
+        let item = item_of (length H) t (call_of between.world t e) (snap_of between.world t e) answers.reply in
         let whole = H ++ event_at t stores in
         let history : longer ≡ whole = answers.history_is ∙ append_assoc H (go_at t ∷ []) (event_reply t stores) in
-        let more : heard run whole ≡ heard run H ++ item_with stores ∷ [] =
+        let more : heard run whole ≡ heard run H ++ item ∷ [] =
         heard-event t e stores stands.has_run said.happens ∙ ap (λ said. heard run H ++ said) (rw said.registered refl) in
         let under : t < run.threads = omega (arith, below) in
-        let waits = waits-put_all run between t e 0 stores (record { pending = inside-event e said.happens; registered = said.registered }) in
+        let waits = inside-all run between t e 0 stores (record { pending = inside-event e said.happens; registered = said.registered }) in
         subst (λ K. Visited stands_for run H t parts others K) (sym history)
         (visited-event stands_for parts others e said.happens stores (stores-few answers.reply (snap_of between.world t e))
         (may-store run H t e stands.some said.happens answers.reply said.registered) waits
-        (own-told run H whole t (item_with stores) refl under more stands.own)
-        (told-silent run H whole t (item_with stores) refl more under)
-        (serves-told stands_for run parts others H whole t (item_with stores) refl more answers.as_many answers.each))
+        (own-told run H whole t item refl under more stands.own)
+        (told-silent run H whole t item refl more under)
+        (serves-told stands_for run parts others H whole t item refl more answers.as_many answers.each))
 
     -- where the part found no memory, nothing more was heard, and the history ends inside the callback
     pub serves-said : OnlyUnheard stands_for (Some t) parts others → ServesTo stands_for run parts H others (H ++ go_at t ∷ [])
@@ -259,27 +236,6 @@ module _ (run : Run) (from : ℕ) (H : List Entry) (t : ℕ) (stands : StandsAt 
       };
       serves = serves-unheard stands_for run parts others H (H ++ go_at t ∷ []) (Some t) (heard-pending t e stands.has_run said.happens) kept;
     }
-
--- a visit that told nothing: what was added, and what is so afterwards
-pub record QuietVisit {P : Type 0} (stands_for : P → Record → Type 0) (book next : BookView) (t : ℕ) (parts : List P) : Type 0 where
-  pub added : List Entry
-  pub whole : next ≡ with_entries book added
-  pub visited : Visited stands_for book.run book.history t parts parts (book.history ++ added)
-
-module _ (book next : BookView) (from t : ℕ) (stands : StandsAt book.run from book.history) (turns : first_enabled book.run (state_of book) from ≡ Some t) (added : next ≡ with_entries book (turn_visit book t).added) {P : Type 0} (stands_for : P → Record → Type 0) (parts : List P) where
-  pub alone-visit : IsAlone book t → QuietVisit stands_for book next t parts
-  alone-visit alone = record {
-    added = go_at t ∷ [];
-    whole = added ∙ ap (with_entries book) alone.added_is;
-    visited = visited-alone book.run from book.history t stands turns stands_for parts alone.none;
-  }
-
-  pub untold-visit : HasUntold book t → QuietVisit stands_for book next t parts
-  untold-visit untold = record {
-    added = event_at t [];
-    whole = added ∙ ap (with_entries book) untold.added_is;
-    visited = visited-untold book.run from book.history t stands turns stands_for parts untold.is_untold;
-  }
 
 -- what a run that has stopped has come to
 pub have-served : {P : Type 0} (stands_for : P → Record → Type 0) (Same : P → P → Type 0) (run : Run) (next : ℕ)
@@ -314,7 +270,3 @@ have-served {P} stands_for Same run next reason H text parts others serves same 
 pub from_either : {X E : Type 0} (r : Result X E) {A B C : Type 0} → OnOk r A → OnErr r B → (A → C) → (B → C) → C
 from_either (Ok x) ok err f g = f ok
 from_either (Err e) ok err f g = g err
-
-pub from_ok : {X E : Type 0} (r : Result X E) {A C : Type 0} → OnOk r A → (A → C) → OnOk r C
-from_ok (Ok x) ok f = f ok
-from_ok (Err e) ok f = tt

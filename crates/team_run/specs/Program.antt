@@ -47,3 +47,8 @@ pub record IsRan {P : Type 0} (stands_for : P → Record → Type 0) (Same : P �
   pub same : AreSame Same before ran.parts.items
   pub always : AreAlways ran.mask
   pub text : ran.text.items ≡ (after run ran.history).world.store.text
+
+-- the same of this program, with so many threads and silent steps, with the mask of the answer
+abbrev pub IsRanOf : {P : Type 0} → (P → Record → Type 0) → (P → P → Type 0) → Bool → TreeView → ℕ → ℕ → List P → Ran P → Type 0
+IsRanOf stands_for Same is_serial program threads steps before ran =
+    IsRan stands_for Same is_serial (run_of program threads steps ran) before ran

@@ -13,33 +13,36 @@ pub struct Start {
     pub answer: u32,
     /// The callbacks that it registered: bit n for number n.
     pub registered: u64,
+    /// What is heard of the run: what it registered, where it is active.
+    pub mask: u64,
 }
 
 /// Starts the first part.
 pub fn initialize_first<P: ToolPart>(parts: &mut [P]) -> Start
     requires { 0 < length parts.old }
     ensures always { AreAlways result.registered }
+    ensures mask { result.mask ≡ mask_of result.answer result.registered }
+    ensures mask_always { AreAlways result.mask }
     ensures first { ChangesFirst P.stands_for P.same
         (λ (h : Record). initialized h result.answer result.registered) parts.old parts.new }
 {
     let mut registrar = Registrar::new();
     let answer = parts[0].initialize(&mut registrar);
+    let registered = registrar.mask();
     Start {
         answer,
-        registered: registrar.mask(),
+        registered,
+        mask: heard_mask(answer, registered),
     }
 }
 
-/// What is heard of a run: what the first part registered, where it is active.
-pub fn mask_of(start: Start) -> u64
-    ensures mask { result ≡ mask_of start.answer start.registered }
-    ensures always { AreAlways start.registered → AreAlways result }
+/// What is heard of a run whose first part answered this, and registered these.
+fn heard_mask(answer: u32, registered: u64) -> u64
+    requires { AreAlways registered }
+    ensures mask { result ≡ mask_of answer registered }
+    ensures always { AreAlways result }
 {
-    if start.answer == 0 {
-        0
-    } else {
-        start.registered
-    }
+    if answer == 0 { 0 } else { registered }
 }
 
 /// Finishes the first part, where it is active.

@@ -61,7 +61,7 @@ mod ran;
 mod serial;
 mod serial_run;
 
-pub use edges::{Start, finalize_first, initialize_first, mask_of};
+pub use edges::{Start, finalize_first, initialize_first};
 pub use omp_machine::Limits;
 pub use ran::{Memory, Ran};
 pub use serial::run_serial;

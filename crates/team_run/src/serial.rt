@@ -1,9 +1,9 @@
 //! The serial run: threads take turns round and round, each a whole turn with its callback.
 
 ghost use Rattle.std.specs.Prelude.{◌≡◌, IfOk, length, true};
-ghost use Rattle.team_run.specs.Program.{IsRan, run_of};
+ghost use Rattle.team_run.specs.Program.{IsRanOf};
 
-use crate::edges::{finalize_first, initialize_first, mask_of};
+use crate::edges::{finalize_first, initialize_first};
 use crate::ran::{Memory, Ran};
 use crate::serial_run::SerialRun;
 use c_check::Program;
@@ -23,12 +23,10 @@ pub fn run_serial<P: ToolPart>(
     mut parts: Vec<P>,
 ) -> Result<Ran<P>, Memory>
     requires { length parts.items ≡ limits.threads }
-    ensures ran { IfOk result (λ ran.
-        IsRan P.stands_for P.same true (run_of program limits.threads limits.steps ran) parts.items ran) }
+    ensures ran { IfOk result (IsRanOf P.stands_for P.same true program limits.threads limits.steps parts.items) }
 {
     let start = initialize_first(&mut parts);
-    let mask = mask_of(start);
-    let book = Book::start(alloc, program, mask, limits)?;
+    let book = Book::start(alloc, program, start.mask, limits)?;
     let mut run = SerialRun {
         book,
         parts,
@@ -42,7 +40,7 @@ pub fn run_serial<P: ToolPart>(
     let Closed { history, text, .. } = run.book.close();
     Ok(Ran {
         cause,
-        mask,
+        mask: start.mask,
         history,
         text,
         parts: run.parts,

@@ -1,12 +1,12 @@
 -- The drivers of a run: as they are started, and once all have come back.
 use Rattle.std.proofs.Common.{◌≡◌, ◌≢◌, ℕ, ◌+◌, ◌<◌, ◌≤◌, Bool, true, false, if◌then◌else◌, List, [], ◌∷◌, ◌++◌, length, length-append, get_or, slice_set, drop, Option, Some, None, refl, sym, ap, subst, ◌∙◌, append_assoc, inl, inr, ◌⊎◌, arith}
 use Rattle.std.proofs.lemmas.Bool.{true≢false, false_from_ne_true, cases_eq, cases_lt}
-use Rattle.std.proofs.lemmas.List.{Folds.list_any_at, drop_more, get_or_append_left, get_or_at, get_or_default, get_or_push, get_or-set_same, get_or-set_other, length-drop, length-set}
+use Rattle.std.proofs.lemmas.List.{Folds.list_any_at, drop_more, get_or_append_left, get_or_at, get_or_default, get_or_push, length-drop, length-set}
 use Rattle.omp_model.specs.declared.cause.Cause.TheVariants as causes
 use Rattle.omp_model.proofs.MadeRuns.{at-replicate}
 use Rattle.step_book.{specs.Rule.NoneBy, specs.Sharing.AreOwn, specs.Sharing.IsClosed, specs.Sharing.any_ended, specs.Sharing.fresh_pass, proofs.Others.entries-append, proofs.Others.holds-others, proofs.Others.own-back}
 use Rattle.team_run.specs.Names.{Record, Cause, Callback, Entry, Run, first, pending_at, cause_of, heard_of, after, Closed, entries_of, PassView}
-use Rattle.team_run.{specs.Serving.called_for, specs.Unheard.LeftAt, specs.Standing.HearsOwn, proofs.Serving.served-nil}
+use Rattle.team_run.{specs.Serving.called_for, specs.Unheard.LeftAt, specs.Standing.HearsOwn, proofs.Serving.served-nil, proofs.Serving.set-each}
 use Rattle.thread_run.specs.Drivers.{AreDrivers, AreFor, AreKept, HasServed, IsDriver}
 use Rattle.thread_run.{specs.Driving.IsDriven, proofs.Driving.heard-others, proofs.Driving.left-others}
 
@@ -72,21 +72,12 @@ for-more is parts slots slot each one k d e below = elim (cases_eq k (length slo
 pub kept-set : {P L : Type 0} (is : ℕ → P → L → Type 0) (slots others : List L) (place : ℕ) (none next : L) → AreKept is slots others
     → place < length others → ((t : ℕ) (whose : P) → is t whose (get_or others place none) → is t whose next)
     → AreKept is slots (slice_set others place next)
-kept-set is slots others place none next kept within goes = record {
+kept-set {P} is slots others place none next kept within goes = record {
   as_many = length-set others place next ∙ kept.as_many;
-  each = λ k d t whose below there. elim (cases_eq k place) [
-    | inl here ↦ rw (here, get_or-set_same others place next d within)
-        (goes t whose (rw (here, get_or_default others place d none within) at (kept.each k d t whose below there)))
-    | inr other ↦ rw (get_or-set_other others place k next d other) (kept.each k d t whose below there)
-  ];
-}
-
--- a list that was changed twice
-pub kept-then : {P L : Type 0} (is : ℕ → P → L → Type 0) (slots between others : List L) → AreKept is slots between
-    → AreKept is between others → AreKept is slots others
-kept-then is slots between others one two = record {
-  as_many = two.as_many ∙ one.as_many;
-  each = λ k d t whose below there. two.each k d t whose (omega (arith, below, one.as_many)) (one.each k d t whose below there);
+  each = λ k d t whose below there.
+      set-each others place (get_or others place none) next (get_or_default others place none (get_or others place none) within) within
+      (λ k one other. (t : ℕ) (whose : P) → is t whose one → is t whose other) goes (λ k one apart t whose stays. stays) k d t whose
+      (kept.each k d t whose below there);
 }
 
 -- What a closed book says.

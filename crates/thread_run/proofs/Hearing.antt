@@ -3,7 +3,7 @@ use Rattle.std.proofs.Common.{◌≡◌, ◌≢◌, ℕ, ◌+◌, ◌<◌, ◌==
 use Rattle.std.proofs.lemmas.{Bool.true≢false, Bool.and_right, Bool.cond_both, Bool.or_from, Bool.or_parts, Bool.or_right, Bool.ne_eqb, Bool.Decides.eqb_tells, List.length-set, List.Elements.filter-append}
 use Rattle.omp_model.specs.declared.event.Outcome.TheVariants as outcome
 use Rattle.omp_model.specs.Heard.{has_back, heard_at, heard_event, heard_from, heard_outcome, is_back, stores_at, stores_in}
-use Rattle.omp_model.{specs.declared.history.What.What, specs.declared.history.What.TheVariants.Go, specs.declared.history.What.TheVariants.Put, specs.declared.history.What.TheVariants.Back, specs.State.World, specs.Legal.does, specs.Storing.put_at, proofs.Turns.Leaves, proofs.Turns.leaves-turn, proofs.Later.at-set}
+use Rattle.omp_model.{specs.declared.history.What.What, specs.declared.history.What.TheVariants.Go, specs.declared.history.What.TheVariants.Put, specs.declared.history.What.TheVariants.Back, specs.State.World, specs.Legal.does, specs.Storing.put_at, proofs.Turns.Leaves, proofs.Turns.leaves-turn, proofs.Turns.turn-pending, proofs.Later.at-set}
 use Rattle.team_run.specs.Names.{Item, is_registered, Stored, Callback, Event, Outcome, Entry, Run, State, pending_at, call_of, callback_of, after_from, back_from, entered, put_from, snap_of, event_reply, go_at, called, turn, NotBy}
 use Rattle.team_run.proofs.Serving.{on_thread}
 
@@ -171,8 +171,7 @@ left-by-back run S t (entry ∷ rest) inside outside =
 -- a turn with an event takes the thread inside
 goes-inside : (run : Run) (S : State) (t : ℕ) (event : Event) → t < length S.pending → (turn run S t).outcome ≡ outcome.Happens event → Inside (turn run S t).state t
 goes-inside run S t event within happens =
-    let leaves = subst (λ (o : Outcome). Leaves S t (turn run S t).state o) happens (leaves-turn run S t) in
-    rw (leaves.2, get_or-set_same S.pending t (Some (called event)) None within) refl
+    rw (turn-pending run S t event happens, get_or-set_same S.pending t (Some (called event)) None within) refl
 
 -- the threads that there are
 does-many : (run : Run) (S : State) (u : ℕ) (what : What) → length (does run S u what).pending ≡ length S.pending

@@ -1,5 +1,5 @@
 -- The drivers of a run, while they are started, and once they have come back.
-use Rattle.std.specs.Prelude.{ℕ, ◌≡◌, ◌≢◌, ◌<◌, ◌≤◌, false, List, [], length, get_or, vec_capacity, Some, Result, Ok, Err}
+use Rattle.std.specs.Prelude.{ℕ, ◌≡◌, ◌≢◌, ◌<◌, ◌≤◌, false, List, [], length, get_or, vec_capacity, Some, MatchResult}
 use Rattle.std.specs.Global.{Vec}
 use Rattle.omp_model.specs.declared.cause.Cause.TheVariants as causes
 use Rattle.team_run.specs.{Names.Record, Names.Cause, Names.Run, Names.Closed, Names.PassView, Program.HaveServed}
@@ -12,13 +12,10 @@ pub record IsDriver {P : Type 0} (stands_for : P → Record → Type 0) (Same : 
   pub driven : IsDriven stands_for Same run first pass part
 
 -- a driver that runs on a thread of its own, as it was when it was started, or that the caller has
-abbrev pub IsPlaced : {P H : Type 0} → (H → PassView) → (H → P) → (P → Record → Type 0) → (P → P → Type 0) → Run → ℕ → P →
-    Result H (PassView × P) → Type 0
-IsPlaced pass_of part_of stands_for Same run t first (Ok running) = IsDriver stands_for Same run t first (pass_of running) (part_of running)
-IsPlaced pass_of part_of stands_for Same run t first (Err here) = IsDriver stands_for Same run t first here.0 here.1
-
 abbrev pub IsSlot : {K P : Type 0} → (P → Record → Type 0) → (P → P → Type 0) → Run → ℕ → P → Slot K P → Type 0
-IsSlot stands_for Same run t first slot = IsPlaced (λ h. h.promise.0.value) (λ h. h.promise.1.value) stands_for Same run t first slot.driver
+IsSlot stands_for Same run t first slot = MatchResult slot.driver
+    (λ running. IsDriver stands_for Same run t first running.promise.0.value running.promise.1.value)
+    (λ here. IsDriver stands_for Same run t first here.0 here.1)
 
 -- each of these is what this says of its place and of the part that was there at first
 abbrev pub AreFor : {P L : Type 0} → (ℕ → P → L → Type 0) → List P → List L → Type 0

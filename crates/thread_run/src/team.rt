@@ -83,7 +83,7 @@ fn finish<R: Threads, K: BookName, P: ToolPart>(rt: &R, slot: Slot<K, P>) -> (Pa
 }
 
 /// Drives the drivers that the caller has, until the run is over. One alone is driven to its end. None of two may wait for
-/// the other, so they take turns.
+/// the other, so they take turns, one visit of each.
 pub(crate) fn drive_here<R: Wait, K: BookName, P: ToolPart>(
     rt: &R,
     book: &SharedBook<K>,
@@ -93,29 +93,17 @@ pub(crate) fn drive_here<R: Wait, K: BookName, P: ToolPart>(
 {
     let here = slots.iter().filter(|slot| slot.driver.is_err()).count();
     for _ in rt.forever() {
-        if !visit_all(rt, book, slots, here) {
-            break;
+        let mut goes_on = false;
+        for place in 0..slots.len() {
+            if visit_here(rt, book, &mut slots[place], here) != Visited::Over {
+                goes_on = true;
+            }
+        }
+        if !goes_on {
+            return;
         }
         thread::yield_now();
     }
-}
-
-/// One visit of each driver that the caller has, which are so many. It answers whether one goes on.
-fn visit_all<R: Wait, K: BookName, P: ToolPart>(
-    rt: &R,
-    book: &SharedBook<K>,
-    slots: &mut [Slot<K, P>],
-    here: usize,
-) -> bool
-    ensures { AreKept (IsSlot P.stands_for P.same K.run) slots.old slots.new }
-{
-    let mut goes_on = false;
-    for place in 0..slots.len() {
-        if visit_here(rt, book, &mut slots[place], here) != Visited::Over {
-            goes_on = true;
-        }
-    }
-    goes_on
 }
 
 /// Visits the driver, if the caller has it: once where it has more, and else until the run is over. None of them goes on

@@ -2,9 +2,9 @@
 
 ghost use Rattle.std.specs.Prelude.{◌≡◌, ◌≢◌, ◌≤◌, Some, IfOk, false, length};
 ghost use Rattle.thread_run.specs.Drivers.{CanDrive, HasServed, HaveComeBack};
-ghost use Rattle.team_run.specs.Program.{IsRan, run_of};
+ghost use Rattle.team_run.specs.Program.{IsRanOf};
 
-use crate::team::{Slot, Stays, drive_here, finish_all, start_all};
+use crate::team::{Stays, drive_here, finish_all, start_all};
 use c_check::Program;
 use omp_machine::Limits;
 use omp_model::Cause;
@@ -16,7 +16,7 @@ use std::sync::atomic::AtomicBool;
 use std::thread::Threads;
 use std::{array, thread};
 use step_book::{Blank, BookName, Closed, Pass, SharedBook};
-use team_run::{Memory, Ran, finalize_first, initialize_first, mask_of};
+use team_run::{Memory, Ran, finalize_first, initialize_first};
 use tool_api::ToolPart;
 
 /// Runs the program with each thread number on a thread of its own, or driven by the caller where that can't be started. What the parts are
@@ -32,12 +32,10 @@ pub fn run_threads<R: Threads + Wait + Sync, P: ToolPart>(
     mut parts: Vec<P>,
 ) -> Result<Ran<P>, Memory>
     requires { length parts.items ≡ limits.threads }
-    ensures ran { IfOk result (λ ran.
-        IsRan P.stands_for P.same false (run_of program limits.threads limits.steps ran) parts.items ran) }
+    ensures ran { IfOk result (IsRanOf P.stands_for P.same false program limits.threads limits.steps parts.items) }
 {
     let start = initialize_first(&mut parts);
-    let mask = mask_of(start);
-    let blank = Blank::new(alloc, program, mask, limits)?;
+    let blank = Blank::new(alloc, program, start.mask, limits)?;
     let (closed, mut parts) = run_team::<R, Brand, P>(rt, alloc, blank, parts)?;
     let cause = known_cause(closed.cause);
     if cause == Cause::Memory && closed.history.as_slice().is_empty() {
@@ -47,7 +45,7 @@ pub fn run_threads<R: Threads + Wait + Sync, P: ToolPart>(
     let Closed { history, text, .. } = closed;
     Ok(Ran {
         cause,
-        mask,
+        mask: start.mask,
         history,
         text,
         parts,
@@ -82,41 +80,25 @@ fn run_team<R: Threads + Wait + Sync, K: BookName, P: ToolPart>(
     let slots = Vec::with_capacity(alloc, passes.len())?;
     let passes_back = Vec::with_capacity(alloc, passes.len())?;
     let parts_back = Vec::with_capacity(alloc, passes.len())?;
-    let (passes, parts) = run_drivers(rt, &book, passes, parts, slots, passes_back, parts_back);
-    Ok((book.close(passes), parts))
-}
-
-/// How many processors the threads may run on, or one where that isn't known.
-fn processors<R: Threads>(rt: &R) -> usize {
-    thread::available_parallelism(rt).map_or(1, NonZeroUsize::get)
-}
-
-/// Runs the drivers of these passes and parts, each on a thread of its own, and hands them back in order.
-fn run_drivers<R: Threads + Wait + Sync, K: BookName, P: ToolPart>(
-    rt: &R,
-    book: &SharedBook<K>,
-    passes: Vec<Pass<K>>,
-    parts: Vec<P>,
-    slots: Vec<Slot<K, P>>,
-    passes_back: Vec<Pass<K>>,
-    parts_back: Vec<P>,
-) -> (Vec<Pass<K>>, Vec<P>)
-    requires { CanDrive passes.items parts.items slots passes_back parts_back }
-    ensures { HaveComeBack P.stands_for P.same K.run passes.items parts.items result.0.items result.1.items }
-{
     // No start of a thread was refused yet.
     let stays: Stays = array::from_fn(|_| AtomicBool::new(false));
-    let stays = &stays;
-    thread::scope(
+    let (shared, stays) = (&book, &stays);
+    let (passes, parts) = thread::scope(
         thread::scope_env(),
         rt,
         move |scope| -> (Vec<Pass<K>>, Vec<P>)
             requires { CanDrive passes.items parts.items slots passes_back parts_back }
             ensures { HaveComeBack P.stands_for P.same K.run passes.items parts.items result.0.items result.1.items }
         {
-            let mut slots = start_all(scope, rt, book, stays, passes, parts, slots);
-            drive_here(rt, book, &mut slots);
+            let mut slots = start_all(scope, rt, shared, stays, passes, parts, slots);
+            drive_here(rt, shared, &mut slots);
             finish_all(rt, slots, passes_back, parts_back)
         },
-    )
+    );
+    Ok((book.close(passes), parts))
+}
+
+/// How many processors the threads may run on, or one where that isn't known.
+fn processors<R: Threads>(rt: &R) -> usize {
+    thread::available_parallelism(rt).map_or(1, NonZeroUsize::get)
 }

@@ -20,7 +20,7 @@ returns g c =
     let start = c.initialize_first-start in
     let ended = c.finish-cause.new.self in
     let stops = c.finish-cause.ensures in
-    let over : ended.book.run ≡ run_of_program c.args.program c.mask_of-mask.result c.args.limits.threads c.args.limits.steps =
+    let over : ended.book.run ≡ run_of_program c.args.program start.result.mask c.args.limits.threads c.args.limits.steps =
     stops.run ∙ ap (λ (book : BookView). book.run) c.in_ok-book.ensures in
     let first = changes-vector stands_for Same _ _ _ _ _ c.deref_mut.ensures.value (sym c.args.parts.ok.0) start.ensures.first in
     let last = changes-vector stands_for Same _ _ _ _ _ c.deref_mut-2.ensures.value (sym ended.parts.ok.0) c.finalize_first.ensures in
@@ -29,7 +29,7 @@ returns g c =
           rw (c.close-history.ensures.history, ← over)
           (is-ran stands_for Same onward true ended.book.run _ c.args.parts.items _ ended.parts.items
           start.result.answer start.result.registered
-          (ap (λ (run : Run). run.mask) over ∙ c.mask_of-mask.ensures.mask) (c.mask_of-mask.ensures.always start.ensures.always)
+          (ap (λ (run : Run). run.mask) over ∙ start.ensures.mask) start.ensures.mask_always
           (omega (arith, c.args.limits.some_threads, c.requires)) first
           (have-served stands_for Same ended.book.run ended.next c.finish-cause.result ended.book.history _ _ ended.parts.items
           (rw (ap (λ (book : BookView). book.history) c.in_ok-book.ensures) at stops.serves) stops.same stops.stops stops.stands stops.over

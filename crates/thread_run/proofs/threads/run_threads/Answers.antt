@@ -26,8 +26,8 @@ returns g c =
     let begun : cause.result ≡ causes.Memory → c.in_ok-closed.closed.history ≢ [] = search rules in record {
       ran =
           is-ran stands_for Same onward false
-          (run_of_program c.args.program c.mask_of-mask.result c.args.limits.threads c.args.limits.steps) _ c.args.parts.items _ parts.items
-          start.result.answer start.result.registered c.mask_of-mask.ensures.mask (c.mask_of-mask.ensures.always start.ensures.always)
+          (run_of_program c.args.program start.result.mask c.args.limits.threads c.args.limits.steps) _ c.args.parts.items _ parts.items
+          start.result.answer start.result.registered start.ensures.mask start.ensures.mask_always
           (omega (arith, c.args.limits.some_threads, c.requires)) first
           (rw c.in_ok-blank.ensures at (c.in_ok-closed.ensures cause.result cause.ensures begun)) last;
     }

@@ -12,13 +12,13 @@ returns-clause-answers g c =
       reply = reply;
       history_is = rw (c.reuse.ensures, c.answer.ensures) refl;
       as_many = length-set parts t c.callback.new.self;
-      each = told-at g.P.ToolPart.stands_for parts t c.index_mut.result.now c.callback.new.self c.index_mut.ensures.value c.requires.part (item_of c.args.seq t c.args.call.now c.args.snapshot reply) c.in_ok-reply.ensures.heard;
+      each = told-at parts t c.index_mut.result.now c.callback.new.self c.index_mut.ensures.value c.requires.part g.P.ToolPart.stands_for (item_of c.args.seq t c.args.call.now c.args.snapshot reply) c.in_ok-reply.ensures.heard;
     }
 
 pub returns-in_err-reply-clause-same : goal.returns-in_err-reply-clause-same
 returns-in_err-reply-clause-same g c =
-    same-at g.P.ToolPart.same (g.met.P.ToolPart g.world.𝓛 g.world.𝓜 g.world.𝓡 ((λ s x. x), (λ x. x), (λ x. x), λ x. x)).same_itself c.args.self.now.parts.items c.args.thread c.index_mut.result.now c.callback.new.self c.index_mut.ensures.value c.requires.part c.callback.ensures.kept
+    same-at c.args.self.now.parts.items c.args.thread c.index_mut.result.now c.callback.new.self c.index_mut.ensures.value c.requires.part g.P.ToolPart.same (g.met.P.ToolPart g.world.𝓛 g.world.𝓜 g.world.𝓡 ((λ s x. x), (λ x. x), (λ x. x), λ x. x)).same_itself c.callback.ensures.kept
 
 pub returns-clause-same : goal.returns-clause-same
 returns-clause-same g c =
-    same-at g.P.ToolPart.same (g.met.P.ToolPart g.world.𝓛 g.world.𝓜 g.world.𝓡 ((λ s x. x), (λ x. x), (λ x. x), λ x. x)).same_itself c.args.self.now.parts.items c.args.thread c.index_mut.result.now c.callback.new.self c.index_mut.ensures.value c.requires.part c.callback.ensures.kept
+    same-at c.args.self.now.parts.items c.args.thread c.index_mut.result.now c.callback.new.self c.index_mut.ensures.value c.requires.part g.P.ToolPart.same (g.met.P.ToolPart g.world.𝓛 g.world.𝓜 g.world.𝓡 ((λ s x. x), (λ x. x), (λ x. x), λ x. x)).same_itself c.callback.ensures.kept

@@ -1,7 +1,8 @@
-use Rattle.std.proofs.Common.{◌≡◌, ◌<◌, ◌∙◌, refl, sym, ap, subst, arith, inl, inr, ◌∷◌, []}
+use Rattle.std.proofs.Common.{◌≡◌, ◌<◌, ◌∙◌, refl, sym, ap, subst, arith, inl, inr, ◌∷◌, [], ◌++◌}
+use Rattle.std.proofs.lemmas.Result.{on_ok_weaker}
 use Rattle.omp_model.{specs.Storing.go_at, proofs.Recording.first_enabled-enabled, proofs.Recording.first_enabled-below}
-use Rattle.step_book.{specs.BookView.BookView, specs.BookView.with_entries, proofs.Telling.told-step, proofs.Telling.quiet-step, proofs.Telling.ended-step, proofs.Telling.not_yet-step}
-use Rattle.team_run.proofs.Visiting.{QuietVisit, Visited, alone-visit, stops-here, stops-inside, untold-visit, visited-said, serves-said, serves-to, from_either, from_ok}
+use Rattle.step_book.{specs.BookView.BookView, specs.BookView.with_entries, specs.Visit.turn_visit, proofs.Telling.HasUntold, proofs.Telling.IsAlone, proofs.Telling.told-step, proofs.Telling.quiet-step, proofs.Telling.ended-step, proofs.Telling.not_yet-step}
+use Rattle.team_run.proofs.Visiting.{Visited, stops-here, stops-inside, visited-alone, visited-said, visited-untold, serves-said, serves-to, from_either}
 use Rattle.team_run.{specs.Serving.Answers, proofs.Serving.same-itself}
 use Rattle.team_run.proofs.serial_run.SerialRun.visit.Goals as goal
 
@@ -48,8 +49,8 @@ returns-in-Told g c =
           (λ answered. stops-here _ _ _ (visited answered).stands)
           (λ kept. rw (kept.0, whole) (stops-inside book.run _ book.history t
           c.requires.stands c.requires.turn told.is_told.event told.is_told.happens)));
-      stands = from_ok c.serve.result c.serve.ensures.answers (λ answered. rw (same, c.serve.ensures.next) (visited answered).stands);
-      turns = from_ok c.serve.result c.serve.ensures.answers (λ answered. rw same (visited answered).turns);
+      stands = on_ok_weaker c.serve.result (λ answered. rw (same, c.serve.ensures.next) (visited answered).stands) c.serve.ensures.answers;
+      turns = on_ok_weaker c.serve.result (λ answered. rw same (visited answered).turns) c.serve.ensures.answers;
     }
 
 pub returns-in-Quiet : goal.returns-in-Quiet
@@ -59,16 +60,20 @@ returns-in-Quiet g c =
     let t = c.args.ready.thread in
     let parts = c.args.self.now.parts.items in
     let step = sym c.in_ok-step.ensures.step in
-    let alone = alone-visit book c.go_ready.new.self _ t c.requires.stands c.requires.turn c.in_ok-step.ensures.added stands_for parts in
-    let untold = untold-visit book c.go_ready.new.self _ t c.requires.stands c.requires.turn c.in_ok-step.ensures.added stands_for parts in
-    let quiet : QuietVisit stands_for book c.go_ready.new.self t parts = elim c.in-Quiet.is [
+    let whole : c.go_ready.new.self ≡ with_entries book (turn_visit book t).added = c.in_ok-step.ensures.added in
+    let came = Visited stands_for book.run book.history t parts parts (book.history ++ (turn_visit book t).added) in
+    let alone : IsAlone book t → came = λ alone.
+    rw alone.added_is (visited-alone book.run _ book.history t c.requires.stands c.requires.turn stands_for parts alone.none) in
+    let untold : HasUntold book t → came = λ untold.
+    rw untold.added_is (visited-untold book.run _ book.history t c.requires.stands c.requires.turn stands_for parts untold.is_untold) in
+    let visited : came = elim c.in-Quiet.is [
       | inl is ↦ elim (quiet-step book t (step ∙ is)) [ inl none ↦ alone none | inr some ↦ untold some ]
       | inr other ↦ elim other [ inl not_yet ↦ absurd (not_yet-step book t (step ∙ not_yet)) | inr ended ↦ alone (ended-step book t ended.0 (step ∙ ended.1)) ]
     ] in record {
-      run = rw quiet.whole refl;
-      serves = rw quiet.whole (serves-to _ _ _ _ quiet.visited.stands stands_for _ _ quiet.visited.serves);
+      run = rw whole refl;
+      serves = rw whole (serves-to _ _ _ _ visited.stands stands_for _ _ visited.serves);
       same = same-itself g.P.ToolPart.same (g.met.P.ToolPart g.world.𝓛 g.world.𝓜 g.world.𝓡 ((λ s x. x), (λ x. x), (λ x. x), λ x. x)).same_itself parts;
-      stops = rw quiet.whole (stops-here _ _ _ quiet.visited.stands);
-      stands = rw quiet.whole quiet.visited.stands;
-      turns = rw quiet.whole quiet.visited.turns;
+      stops = rw whole (stops-here _ _ _ visited.stands);
+      stands = rw whole visited.stands;
+      turns = rw whole visited.turns;
     }
