@@ -11,8 +11,8 @@ ghost use Rattle.ompt_cli.specs.{declared.job.Job.Job, Guests.GuestsAfter, Repor
 use crate::end::End;
 use crate::guests::{Guests, Handing, hand_out_all, take_back_all};
 use crate::job::Job;
-use crate::observing::{Observed, Seen};
-use crate::report::{AfterRun, Came, Report};
+use crate::observing::{Observed, Seen, with_report};
+use crate::report::{AfterRun, Came, ProgramTree, Report};
 use crate::runner::Runner;
 use crate::writing::{Made, write_made, write_run};
 use history_file::{FileText, HistoryFile, end_of, write_history};
@@ -69,7 +69,9 @@ fn serve<X: Runner>(runner: &X, job: Job, guests: Guests) -> Result<Served, Allo
         served.text.items ≡ (after (run_of served.report) served.report.history).world.store.text) }
 {
     let Handing { parts, waiting } = hand_out_all(job.alloc, job.settings.threads, guests)?;
-    let observed = runner.run_guests(job, parts)?;
+    let (alloc, settings, program) = (job.alloc, job.settings, ProgramTree::of(&job.loaded));
+    let ran = runner.run_guests(job, parts)?;
+    let observed = with_report(settings, program, ran, Vec::new(alloc));
     let text = observed.text;
     let report = Report {
         guests: take_back_all(observed.parts, waiting),
@@ -119,7 +121,9 @@ fn serve_profiled<X: Runner>(runner: &X, job: Job, guests: Guests) -> Seen<Profi
 {
     let Handing { parts, waiting } = hand_out_all(job.alloc, job.settings.threads, guests)?;
     let Joined { parts, room, .. } = join_all(job.alloc, parts)?;
-    let observed = runner.run_joined(job, parts)?;
+    let (alloc, settings, program) = (job.alloc, job.settings, ProgramTree::of(&job.loaded));
+    let ran = runner.run_joined(job, parts)?;
+    let observed = with_report(settings, program, ran, Vec::new(alloc));
     let text = observed.text;
     let Parted { parts, profiles } = part_all(room, observed.parts);
     let report = Report {

@@ -2,12 +2,12 @@
 
 ghost use Rattle.std.specs.{Prelude.◌≡◌, Prelude.Bool, Prelude.IfOk, Prelude.length, Prelude.true, Thread.IsSync};
 ghost use Rattle.ompt_cli.specs.Names.{HandedFor, SameHanded, ProfiledFor, SameProfiled};
-ghost use Rattle.ompt_cli.specs.Reports.{HasObserved, RunsJob};
+ghost use Rattle.ompt_cli.specs.Reports.{RunsJob};
 
 use crate::guests::Held;
 use crate::job::Job;
 use crate::keepers::Keeper;
-use crate::observing::{Gave, Seen, observe, observe_alone};
+use crate::observing::{Gave, run_alone, run_by_threads};
 use std::sync::Wait;
 use std::thread::Threads;
 use tool_profiled::Profiled;
@@ -23,18 +23,18 @@ pub(crate) trait Runner {
         requires parts { length parts.old.items ≡ job.settings.threads }
         ensures { IfOk result (RunsJob P.stands_for P.same job parts.old.items) };
 
-    /// Runs the job with these parts. The report has no guests.
-    fn run_guests(&self, job: Job, parts: Vec<Held>) -> Seen<Held>
+    /// Runs the job with these parts.
+    fn run_guests(&self, job: Job, parts: Vec<Held>) -> Gave<Held>
         requires kind { may_run self.now job.settings.serial }
         requires parts { length parts.items ≡ job.settings.threads }
-        ensures { IfOk result (HasObserved (HandedFor (λ guest h. (GuestTool-box guest.0).stands_for guest.0.value h))
+        ensures { IfOk result (RunsJob (HandedFor (λ guest h. (GuestTool-box guest.0).stands_for guest.0.value h))
             (SameHanded (λ guest other. guest.0.vtable ≡ other.0.vtable)) job parts.items) };
 
-    /// Runs the job with these parts, which are joined with profiles. The report has no guests.
-    fn run_joined(&self, job: Job, parts: Vec<Profiled<Held>>) -> Seen<Profiled<Held>>
+    /// Runs the job with these parts, which are joined with profiles.
+    fn run_joined(&self, job: Job, parts: Vec<Profiled<Held>>) -> Gave<Profiled<Held>>
         requires kind { may_run self.now job.settings.serial }
         requires parts { length parts.items ≡ job.settings.threads }
-        ensures { IfOk result (HasObserved
+        ensures { IfOk result (RunsJob
             (ProfiledFor (HandedFor (λ guest h. (GuestTool-box guest.0).stands_for guest.0.value h)))
             (SameProfiled (SameHanded (λ guest other. guest.0.vtable ≡ other.0.vtable))) job parts.items) };
 }
@@ -50,12 +50,12 @@ impl Runner for Alone {
         P::run_alone(job, parts)
     }
 
-    fn run_guests(&self, job: Job, parts: Vec<Held>) -> Seen<Held> {
-        observe_alone(job, parts)
+    fn run_guests(&self, job: Job, parts: Vec<Held>) -> Gave<Held> {
+        run_alone(job, parts)
     }
 
-    fn run_joined(&self, job: Job, parts: Vec<Profiled<Held>>) -> Seen<Profiled<Held>> {
-        observe_alone(job, parts)
+    fn run_joined(&self, job: Job, parts: Vec<Profiled<Held>>) -> Gave<Profiled<Held>> {
+        run_alone(job, parts)
     }
 }
 
@@ -70,11 +70,11 @@ impl<'a, R: Threads + Wait + Sync> Runner for WithThreads<'a, R> {
         P::on_threads(self.0, job, parts)
     }
 
-    fn run_guests(&self, job: Job, parts: Vec<Held>) -> Seen<Held> {
-        observe(self.0, job, parts)
+    fn run_guests(&self, job: Job, parts: Vec<Held>) -> Gave<Held> {
+        run_by_threads(self.0, job, parts)
     }
 
-    fn run_joined(&self, job: Job, parts: Vec<Profiled<Held>>) -> Seen<Profiled<Held>> {
-        observe(self.0, job, parts)
+    fn run_joined(&self, job: Job, parts: Vec<Profiled<Held>>) -> Gave<Profiled<Held>> {
+        run_by_threads(self.0, job, parts)
     }
 }
