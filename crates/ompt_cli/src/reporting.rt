@@ -94,28 +94,6 @@ fn write_trace_of_run<O: Sink>(
     if cause == Cause::Memory {
         return End::Memory;
     }
-    write_recorded(alloc, threads, cause, parts, out)
-}
-
-/// Writes the trace of a run that found memory.
-fn write_recorded<O: Sink>(
-    alloc: Global,
-    threads: u8,
-    cause: Cause,
-    parts: &[Recorder],
-    out: &mut O,
-) -> End
-    requires found { cause ≢ Cause.Memory }
-    requires shared { IsSharedFew parts.now }
-    ensures end { EndsAs cause result }
-    ensures found { cause ≢ Cause.Memory }
-    ensures written { (events : List EventRecord) → AreShared events parts.now →
-        HasWritten result (spelling (fields_of (trace_with threads PROFILE_MASK cause events))) (O.held out.old)
-        (O.held out.new) }
-    ensures fits { (events : List EventRecord) → AreShared events parts.now → result ≢ End.WriteFault →
-        result ≢ End.Memory → FitsCause cause × All FitsFields events }
-    ensures faults { CountsFaults result End.WriteFault (O.faults out.old) (O.faults out.new) }
-{
     let Ok(events) = merge(alloc, parts) else {
         return End::Memory;
     };
