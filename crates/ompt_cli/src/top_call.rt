@@ -2,9 +2,8 @@
 
 ghost use Rattle.std.specs.Prelude.{ℕ, ◌≡◌, false, true, IfErr, IfOk, IfSome, IsNone, List, ◌⊎◌};
 ghost use Rattle.ompt_words.specs.declared.settings.Request.TheVariants as request;
-ghost use Rattle.ompt_cli.specs.{Commands.CountsFaults, Commands.HasWritten, Commands.out_of, Ends.TellsEnd, Guests.GuestsAfter};
-ghost use Rattle.ompt_cli.specs.Top.{CarriesOut, FollowsWords, HasTrace, IsRunOf, JudgesText, ShowsFaults, StaysUntouched};
-ghost use Rattle.ompt_cli.specs.{Traces.HasReadInput, Words.AreFaulty, Words.AreInRange, Words.AreTakenAs, Words.texts};
+ghost use Rattle.ompt_cli.specs.{Commands.CountsFaults, Commands.HasWritten, Ends.TellsEnd, Guests.GuestsAfter, Top.CarriesOut};
+ghost use Rattle.ompt_cli.specs.Words.{AreFaulty, AreInRange, AreTakenAs, texts};
 
 use crate::commands::run_settings;
 use crate::end::End;
@@ -39,30 +38,13 @@ pub fn top<R: Threads + Wait + Sync, S: Source, O: Sink, E: Sink>(
 ) -> Top
     // The line of the end is told and the status is the end's, unless a write of the line failed.
     ensures told { TellsEnd E.held E.faults result.status result.end err.old err.new }
-    // The words decide which of a run, a text that is shown and a trace or a history that is read is there.
-    ensures words { FollowsWords (texts words.now) result.end result.shown result.read result.ran }
-    // What ran is the program that the words and the source say, in one legal run that ends in the cause that is reported.
-    ensures ran { IfSome result.ran (IsRunOf (texts words.now) (S.left source.old) result.end) }
+    // What the words decide, what ran, what was read and written, which texts are refused, which faults show, and what stays untouched.
+    ensures carried { CarriesOut S.left S.faults O.held O.faults (texts words.now)
+        result.end result.shown result.read result.ran source.old source.new out.old out.new }
     // Guest t was called for what thread t heard, in its order, beside a profile for what the guests registered of that, and for nothing else but a call
     // that found no memory, which ends the run.
     ensures guests { IfSome result.ran (GuestsAfter (λ guest h.
         (GuestTool-box guest).stands_for guest.value h) guests.items) }
-    // Where a trace or a history file was read, the end says what was read and written of it.
-    ensures read { IfSome result.read (λ command.
-        HasReadInput command result.end (S.left source.old) (S.left source.new) (O.held out.old) (O.held out.new)) }
-    // A text that was to run is refused exactly for a reason that it has.
-    ensures text { JudgesText (texts words.now) (S.left source.old) result.end result.read }
-    // Where neither is read, what is written is the text that was asked for, or what the command writes of its run.
-    ensures written { IsNone result.read →
-        HasWritten result.end (out_of result.shown result.ran) (O.held out.old) (O.held out.new) }
-    // A recording is a trace, the trace of each run of the shipped parts is nested, and a history that is written is a certificate.
-    ensures recorded { IfSome result.ran (HasTrace result.end) }
-    // Each fault of a read or a write was counted, and shows in the end.
-    ensures faults { ShowsFaults result.end (S.faults source.old) (S.faults source.new) (O.faults out.old)
-        (O.faults out.new) }
-    // Nothing is read that the words don't ask for, and nothing is touched where they are refused.
-    ensures untouched { StaysUntouched (texts words.now) result.end result.shown result.read source.old source.new
-        out.old out.new }
 {
     match top_alone(alloc, words, source, out, err, guests) {
         Ok(top) => top,
