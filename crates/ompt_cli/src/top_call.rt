@@ -48,7 +48,11 @@ pub fn top<R: Threads + Wait + Sync, S: Source, O: Sink, E: Sink>(
 {
     match top_alone(alloc, words, source, out, err, guests) {
         Ok(top) => top,
-        Err(asked) => top_by_threads(rt, alloc, asked, source, out, err),
+        Err(asked) => {
+            let by = WithThreads(rt);
+            let outcome = run_settings(&by, alloc, asked.settings, source, out, asked.guests);
+            tell(outcome, err)
+        }
     }
 }
 
@@ -96,28 +100,6 @@ pub fn top_alone<S: Source, O: Sink, E: Sink>(
         }
         Err(fault) => Ok(tell(without_request(fault, source, out), err)),
     }
-}
-
-/// Runs a program by threads, as the words ask.
-fn top_by_threads<R: Threads + Wait + Sync, S: Source, O: Sink, E: Sink>(
-    rt: &R,
-    alloc: Global,
-    asked: ByThreads,
-    source: &mut S,
-    out: &mut O,
-    err: &mut E,
-) -> Top
-    requires range { AreInRange asked.settings }
-    ensures told { TellsEnd E.held E.faults result.status result.end err.old err.new }
-    ensures carried { (words : List (List ℕ)) → AreTakenAs words (request.Run asked.settings) →
-        CarriesOut S.left S.faults O.held O.faults words result.end result.shown result.read result.ran source.old
-        source.new out.old out.new }
-    ensures guests { IfSome result.ran (GuestsAfter (λ guest h.
-        (GuestTool-box guest).stands_for guest.value h) asked.guests.items) }
-{
-    let ByThreads { settings, guests } = asked;
-    let outcome = run_settings(&WithThreads(rt), alloc, settings, source, out, guests);
-    tell(outcome, err)
 }
 
 /// Shows the text that the words ask for, or refuses them. Nothing is read.
