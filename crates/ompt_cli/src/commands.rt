@@ -7,7 +7,7 @@ ghost use Rattle.ompt_cli.specs.{Guests.GuestsAfter, Reports.Reports, Top.Carrie
 use crate::end::End;
 use crate::guests::Guests;
 use crate::job::Job;
-use crate::report::{Came, Top, without_run};
+use crate::report::{Came, Outcome, without_run};
 use crate::reporting::{record, report_kept};
 use crate::run::{run_history, run_printed, run_profile};
 use crate::runner::Runner;
@@ -25,7 +25,7 @@ pub(crate) fn run_settings<X: Runner, S: Source, O: Sink>(
     source: &mut S,
     out: &mut O,
     guests: Guests,
-) -> Top
+) -> Outcome
     requires kind { X.may_run runner.now settings.serial }
     requires range { AreInRange settings }
     ensures carried { (words : List (List ℕ)) → AreTakenAs words (request.Run settings) →
@@ -44,8 +44,7 @@ pub(crate) fn run_settings<X: Runner, S: Source, O: Sink>(
         alloc,
     };
     match run_command(runner, job, guests, out) {
-        Ok(ended) => Top {
-            status: 0,
+        Ok(ended) => Outcome {
             end: ended.end,
             ran: Some(ended.report),
             shown: None,

@@ -8,7 +8,7 @@ ghost use Rattle.ompt_cli.specs.Words.{AreFaulty, AreInRange, AreTakenAs, texts}
 use crate::commands::run_settings;
 use crate::end::End;
 use crate::read_commands::read_input;
-use crate::report::{ByThreads, Top, without_run};
+use crate::report::{ByThreads, Outcome, Top, without_run};
 use crate::runner::{Alone, WithThreads};
 use ompt_words::{Request, WordsFault, request_of};
 use run_edges::{Sink, Source, write_all};
@@ -89,8 +89,7 @@ pub fn top_alone<S: Source, O: Sink, E: Sink>(
             Ok(tell(outcome, err))
         }
         Ok(Request::Read(command)) => {
-            let outcome = Top {
-                status: 0,
+            let outcome = Outcome {
                 end: read_input(alloc, command, source, out),
                 ran: None,
                 shown: None,
@@ -103,7 +102,7 @@ pub fn top_alone<S: Source, O: Sink, E: Sink>(
 }
 
 /// Shows the text that the words ask for, or refuses them. Nothing is read.
-fn without_request<S: Source, O: Sink>(fault: WordsFault, _source: &S, out: &mut O) -> Top
+fn without_request<S: Source, O: Sink>(fault: WordsFault, _source: &S, out: &mut O) -> Outcome
     ensures carried { (words : List (List ℕ)) → AreFaulty words fault →
         CarriesOut S.left S.faults O.held O.faults words result.end result.shown result.read result.ran _source.now
         _source.now out.old out.new }
@@ -112,8 +111,7 @@ fn without_request<S: Source, O: Sink>(fault: WordsFault, _source: &S, out: &mut
     match fault {
         WordsFault::Usage => without_run(End::Usage),
         WordsFault::Memory => without_run(End::Memory),
-        WordsFault::Shown(text) => Top {
-            status: 0,
+        WordsFault::Shown(text) => Outcome {
             end: show(&text, out),
             ran: None,
             shown: Some(text),
@@ -135,7 +133,7 @@ fn show<O: Sink>(text: &str, out: &mut O) -> End
 }
 
 /// Writes the line of the end, and has the status.
-fn tell<E: Sink>(outcome: Top, err: &mut E) -> Top
+fn tell<E: Sink>(outcome: Outcome, err: &mut E) -> Top
     ensures end { result.end ≡ outcome.end }
     ensures ran { result.ran ≡ outcome.ran }
     ensures shown { result.shown ≡ outcome.shown }
@@ -145,9 +143,14 @@ fn tell<E: Sink>(outcome: Top, err: &mut E) -> Top
     let end = outcome.end;
     let line = end.line();
     let status = match write_all(err, line.as_str().as_bytes()) {
-        Ok(()) => end.status(),
-        Err(_) if end == End::Memory => end.status(),
-        Err(_) => End::WriteFault.status(),
+        Err(_) if end != End::Memory => End::WriteFault.status(),
+        _ => end.status(),
     };
-    Top { status, ..outcome }
+    Top {
+        status,
+        end,
+        ran: outcome.ran,
+        shown: outcome.shown,
+        read: outcome.read,
+    }
 }
