@@ -54,19 +54,14 @@ first-ended answer registered items unheard h one none = rw (one, none) refl
 pub other-ended : (items : List Item) (unheard : Bool) (h : Record) → unheard ≡ false → called_for items unheard h ≡ served h items
 other-ended items unheard h none = rw none refl
 
--- positions from one on are from each smaller one on
-from-less : (least more : ℕ) (events : List EventRecord) → least ≤ more → AreFrom more events → AreFrom least events
-from-less least more [] less from = tt
-from-less least more (event ∷ rest) less from = (omega (arith, less, from.0), from-less least more rest less from.1)
-
--- positions below a limit that rise from one on are from it on, and rise
-from-below : (limit least : ℕ) (events : List EventRecord) → AreBelow limit least events → AreFrom least events
-from-below limit least [] below = tt
-from-below limit least (event ∷ rest) below = (below.0, from-less least (event.seq + 1) rest (omega (arith, below.0)) (from-below limit (event.seq + 1) rest below.2))
+-- positions below a limit that rise from one on are from each smaller one on, and rise
+from-below : (limit least from : ℕ) (events : List EventRecord) → least ≤ from → AreBelow limit from events → AreFrom least events
+from-below limit least from [] less below = tt
+from-below limit least from (event ∷ rest) less below = (omega (arith, less, below.0), from-below limit least (event.seq + 1) rest (omega (arith, less, below.0)) below.2)
 
 rising-below : (limit least : ℕ) (events : List EventRecord) → AreBelow limit least events → AreRising events
 rising-below limit least [] below = tt
-rising-below limit least (event ∷ rest) below = (from-below limit (event.seq + 1) rest below.2, rising-below limit (event.seq + 1) rest below.2)
+rising-below limit least (event ∷ rest) below = (from-below limit (event.seq + 1) (event.seq + 1) rest (omega arith) below.2, rising-below limit (event.seq + 1) rest below.2)
 
 -- no calls so far
 abbrev pub nothing_called : Record
