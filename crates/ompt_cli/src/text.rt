@@ -62,10 +62,8 @@ fn load(alloc: Global, text: Vec<u8>) -> Result<Loaded, End>
     if text.len() > TEXT_LIMIT as usize {
         return Err(End::Refused(Refusal::TooLong));
     }
-    match program_of(alloc, &text) {
-        Ok(program) => Ok(Loaded { program, text }),
-        Err(end) => Err(end),
-    }
+    let program = program_of(alloc, &text)?;
+    Ok(Loaded { program, text })
 }
 
 /// The program that the text spells. The tokens are tried first, then the grammar, and then the rules.
