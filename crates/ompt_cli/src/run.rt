@@ -24,13 +24,6 @@ use std::alloc::{AllocError, Global};
 use tool_profiled::{Joined, Parted, join_all, part_all};
 use tool_report::{Profile, profile_text};
 
-/// What a run with guests gave: its report, in which the guests are back, and the bytes that the program printed.
-#[derive(Drop)]
-struct Served {
-    report: Report,
-    text: Vec<u8>,
-}
-
 /// Runs the job, and writes what the program printed. Guest t is the part of thread t; threads past the guests have none.
 pub(crate) fn run_printed<X: Runner, O: Sink>(by: &X, job: Job, guests: Guests, out: &mut O) -> Came
     requires kind { X.may_run by.now job.settings.serial }
@@ -39,7 +32,7 @@ pub(crate) fn run_printed<X: Runner, O: Sink>(by: &X, job: Job, guests: Guests, 
         O.held O.faults job guests.items out.old out.new ended.end ended.report) }
     ensures untouched { OnErr result (out.new ≡ out.old) }
 {
-    let Served { report, text } = serve(by, job, guests)?;
+    let (report, text) = serve(by, job, guests)?;
     let end = write_run(report.cause, &text, out);
     Ok(AfterRun { end, report })
 }
@@ -53,20 +46,20 @@ pub(crate) fn run_history<X: Runner, O: Sink>(by: &X, job: Job, guests: Guests, 
     ensures untouched { OnErr result (out.new ≡ out.old) }
 {
     let text = Sequence(job.loaded.text.as_slice().to_vec(job.alloc)?);
-    let Served { report, .. } = serve(by, job, guests)?;
+    let (report, _) = serve(by, job, guests)?;
     Ok(write_history_of_run(report, text, out))
 }
 
-/// Runs the job with the guests. A run that found no memory for its first entry is none.
-fn serve<X: Runner>(runner: &X, job: Job, guests: Guests) -> Result<Served, AllocError>
+/// Runs the job with the guests, which are back in its report, beside what the program printed. A run that found no memory for its first entry is none.
+fn serve<X: Runner>(runner: &X, job: Job, guests: Guests) -> Result<(Report, Vec<u8>), AllocError>
     requires kind { X.may_run runner.now job.settings.serial }
     requires command { (job.settings.command ≡ Command.Run RunOutput.Printed) ⊎
         (job.settings.command ≡ Command.Run RunOutput.History) }
-    ensures observes { IfOk result (λ served. Observes job served.report) }
+    ensures observes { IfOk result (λ served. Observes job served.0) }
     ensures guests { IfOk result (λ served.
-        GuestsAfter (λ guest h. (GuestTool-box guest).stands_for guest.value h) guests.items served.report) }
+        GuestsAfter (λ guest h. (GuestTool-box guest).stands_for guest.value h) guests.items served.0) }
     ensures printed { IfOk result (λ served.
-        served.text.items ≡ (after (run_of served.report) served.report.history).world.store.text) }
+        served.1.items ≡ (after (run_of served.0) served.0.history).world.store.text) }
 {
     let Handing { parts, waiting } = hand_out_all(job.alloc, job.settings.threads, guests)?;
     let (alloc, settings, program) = (job.alloc, job.settings, ProgramTree::of(&job.loaded));
@@ -77,7 +70,7 @@ fn serve<X: Runner>(runner: &X, job: Job, guests: Guests) -> Result<Served, Allo
         guests: take_back_all(observed.parts, waiting),
         ..observed.report
     };
-    Ok(Served { report, text })
+    Ok((report, text))
 }
 
 /// Runs the job, and writes what the program printed, and then how many calls of each callback there were. Guest t is the part of thread t beside a profile.
