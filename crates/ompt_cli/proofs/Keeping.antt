@@ -76,17 +76,6 @@ silent-each (item ∷ rest) all = (all 0 item (omega arith), silent-each rest (�
 abbrev pub shares_of : Run → List Entry → ℕ → List (List EventRecord)
 shares_of run H threads = map (λ (k : ℕ). map record_of (heard_of run H k)) (range_with_len 0 threads)
 
-pub heard-shared : (run : Run) (H : List Entry) (threads : ℕ) → 1 ≤ run.threads → Legal run H → run.threads ≡ threads → HearsOwn run H → AreShared (records_of run H) (shares_of run H threads)
-heard-shared run H threads some legal same own =
-    let as_many : length (shares_of run H threads) ≡ threads = length-map-range_with_len (λ (k : ℕ). map record_of (heard_of run H k)) 0 threads in record {
-      rising = rising-below SEQ_LIMIT 0 (records_of run H) (places-below run H some legal);
-      few = λ k past. records-by_thread (heard run H) k ∙ ap (λ items. map record_of items) (own k (omega (arith, past, as_many, same)));
-      each = λ k d below. get_or-map-range_with_len (λ (k : ℕ). map record_of (heard_of run H k)) 0 threads k k d (omega (arith, below, as_many)) (omega arith) ∙ sym (records-by_thread (heard run H) k);
-    }
-
-fresh-keeper : {A : Type 0} (keep : List EventRecord → A) → KeeperFor keep (keep []) nothing_called
-fresh-keeper keep = record { started = λ k d below. absurd (omega (arith, below)); silent = λ k d below. absurd (omega (arith, below)); events = refl; alone = refl }
-
 -- parts that each keep their thread's share keep the run's records
 pub kept-shares : {A : Type 0} (keep : List EventRecord → A) (run : Run) (H : List Entry) (threads : ℕ) (parts : List A) → length parts ≡ threads
     → ((k : ℕ) (d : A) → k < threads → slice_index_or parts k d ≡ keep (map record_of (heard_of run H k))) → 1 ≤ run.threads → Legal run H → run.threads ≡ threads → HearsOwn run H → AreKept keep (records_of run H) parts
@@ -94,7 +83,11 @@ kept-shares {A} keep run H threads parts as_many each some legal same own =
     let share = λ (k : ℕ). map record_of (heard_of run H k) in
     let many : length (shares_of run H threads) ≡ threads = length-map-range_with_len share 0 threads in record {
       shares = shares_of run H threads;
-      shared = heard-shared run H threads some legal same own;
+      shared = record {
+        rising = rising-below SEQ_LIMIT 0 (records_of run H) (places-below run H some legal);
+        few = λ k past. records-by_thread (heard run H) k ∙ ap (λ items. map record_of items) (own k (omega (arith, past, many, same)));
+        each = λ k d below. get_or-map-range_with_len share 0 threads k k d (omega (arith, below, many)) (omega arith) ∙ sym (records-by_thread (heard run H) k);
+      };
       kept = same_lists parts (map keep (shares_of run H threads)) (omega (arith, as_many, length-map (shares_of run H threads) keep, many))
           (λ k d below. each k d (omega (arith, below, as_many)) ∙ ap keep (sym (get_or-map-range_with_len share 0 threads k k [] (omega (arith, below, as_many)) (omega arith)))
           ∙ sym (get_or-map keep (shares_of run H threads) k [] d (omega (arith, below, as_many, many))));
@@ -121,7 +114,7 @@ module _ {Table : Type 0} {Behind : Table → Type 0} {A : Type 0} (keep : List 
   keeps-at : (k : ℕ) (d : A) → k < threads → KeeperFor keep (slice_index_or observed.parts.items k d) (after-at k)
   keeps-at k d below =
       out _ _ (part-at stands observed.report.serial (run_of observed.report) observed.report.cause observed.report.history (replicate threads (keep [])) observed.parts.items has.runs k (omega (arith, below, length-replicate threads (keep []))) d nothing_called
-      (rw (get_or-replicate threads k (keep []) d below) (into (keep []) nothing_called (fresh-keeper keep))))
+      (rw (get_or-replicate threads k (keep []) d below) (into (keep []) nothing_called (record { started = λ k d below. absurd (omega (arith, below)); silent = λ k d below. absurd (omega (arith, below)); events = refl; alone = refl }))))
 
   -- all callbacks were registered, nothing was stored, and each part keeps its share of the run's records
   pub has_kept : HasKept keep job observed

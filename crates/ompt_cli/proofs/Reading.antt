@@ -7,7 +7,7 @@ use Rattle.c_check.specs.Checked.{rule_fault}
 use Rattle.numbered_runs.specs.Alike.{AreAlike}
 use Rattle.ompt_cli.specs.Names.{ConsumesMore, Spot, Token, TokenFault, Reads, beginning, EndsIn, main_of, Tree, HasSyntaxFault, IsTreeOf, TreeView, root_tree, rule_fault_in, CheckFault}
 use Rattle.ompt_cli.specs.Text.{HasTree, IsProgram, IsReadAs, IsRefused, Spells, end_at, end_of, rule_broken, EndsFor, IsLoaded}
-use Rattle.ompt_cli.specs.declared.{end.Refusal.TheVariants.Tokens, end.Refusal.TheVariants.Syntax, end.Refusal.TheVariants.Rule, end.Refusal.TheVariants.TooLong, end.End.TheVariants.Memory, end.End.TheVariants.Refused, end.Refusal.Refusal, end.End.End, job.Loaded.Loaded}
+use Rattle.ompt_cli.specs.declared.{end.Refusal.TheVariants.Tokens, end.Refusal.TheVariants.Syntax, end.Refusal.TheVariants.Rule, end.Refusal.TheVariants.TooLong, end.End.TheVariants.Refused, end.Refusal.Refusal, end.End.End, job.Loaded.Loaded}
 
 module _ (text : List ℕ) where
   -- a text has one list of tokens, with one tree
@@ -120,10 +120,6 @@ ends-refused text why is = record {
   accepted = λ other has. refusal-one text why other is has;
   runs = λ program. absurd (program-not_refused text why program is);
 }
-
--- memory failed
-pub ends-memory : (text : Option (List ℕ)) → EndsFor text Memory
-ends-memory text = record { before = tt; refused = λ why same. absurd cc; accepted = λ why has. tt; runs = λ program. tt }
 
 pub longer : (xs given rest : List ℕ) → xs ≡ given ++ rest → length given ≤ length xs
 longer xs given rest same = omega (arith, ap length same, length-append given rest)
