@@ -19,14 +19,14 @@ use tool_report::{Profile, Recorder, Timeline};
 
 /// Reads the program, or makes it for `gen`, runs it with these settings, and writes what the command writes.
 pub(crate) fn run_settings<X: Runner, S: Source, O: Sink>(
-    runner: &X,
+    by: &X,
     alloc: Global,
     settings: Settings,
     source: &mut S,
     out: &mut O,
     guests: Guests,
 ) -> Outcome
-    requires kind { X.may_run runner.now settings.serial }
+    requires kind { X.may_run by.now settings.serial }
     requires range { AreInRange settings }
     ensures carried { (words : List (List ℕ)) → AreTakenAs words (request.Run settings) →
         CarriesOut S.left S.faults O.held O.faults words result.end result.shown result.read result.ran source.old
@@ -43,7 +43,7 @@ pub(crate) fn run_settings<X: Runner, S: Source, O: Sink>(
         settings,
         alloc,
     };
-    match run_command(runner, job, guests, out) {
+    match run_command(by, job, guests, out) {
         Ok(ended) => Outcome {
             end: ended.end,
             ran: Some(ended.report),

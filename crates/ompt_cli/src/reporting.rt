@@ -48,14 +48,14 @@ pub(crate) fn report_kept<X: Runner, P: Keeper, O: Sink>(
 }
 
 /// Runs the job with a part for each thread that keeps what it is told. The guests of the report are these.
-pub(crate) fn run_kept<X: Runner, P: Keeper>(runner: &X, job: Job, guests: Guests) -> Seen<P>
-    requires { X.may_run runner.now job.settings.serial }
+pub(crate) fn run_kept<X: Runner, P: Keeper>(by: &X, job: Job, guests: Guests) -> Seen<P>
+    requires { X.may_run by.now job.settings.serial }
     ensures kept { IfOk result (HasKept P.keep job) }
     ensures guests { IfOk result (λ observed. observed.report.guests ≡ guests) }
 {
     let (settings, program) = (job.settings, ProgramTree::of(&job.loaded));
     let mut parts = keepers::<P>(job.alloc, settings.threads)?;
-    let ran = runner.run(job, &mut parts)?;
+    let ran = by.run(job, &mut parts)?;
     Ok(with_report(settings, program, ran, guests))
 }
 

@@ -51,8 +51,8 @@ pub(crate) fn run_history<X: Runner, O: Sink>(by: &X, job: Job, guests: Guests, 
 }
 
 /// Runs the job with the guests, which are back in its report, beside what the program printed. A run that found no memory for its first entry is none.
-fn serve<X: Runner>(runner: &X, job: Job, guests: Guests) -> Result<(Report, Vec<u8>), AllocError>
-    requires kind { X.may_run runner.now job.settings.serial }
+fn serve<X: Runner>(by: &X, job: Job, guests: Guests) -> Result<(Report, Vec<u8>), AllocError>
+    requires kind { X.may_run by.now job.settings.serial }
     requires command { (job.settings.command ≡ Command.Run RunOutput.Printed) ⊎
         (job.settings.command ≡ Command.Run RunOutput.History) }
     ensures observes { IfOk result (λ served. Observes job served.0) }
@@ -63,7 +63,7 @@ fn serve<X: Runner>(runner: &X, job: Job, guests: Guests) -> Result<(Report, Vec
 {
     let Handing { parts, waiting } = hand_out_all(job.alloc, job.settings.threads, guests)?;
     let (alloc, settings, program) = (job.alloc, job.settings, ProgramTree::of(&job.loaded));
-    let ran = runner.run_guests(job, parts)?;
+    let ran = by.run_guests(job, parts)?;
     let observed = with_report(settings, program, ran, Vec::new(alloc));
     let text = observed.text;
     let report = Report {
@@ -101,8 +101,8 @@ fn with_profile(alloc: Global, printed: Vec<u8>, profiles: &[Profile]) -> Made
 }
 
 /// Runs the job with the guests beside profiles. The guests are back in the report, and the parts are the profiles.
-fn serve_profiled<X: Runner>(runner: &X, job: Job, guests: Guests) -> Seen<Profile>
-    requires kind { X.may_run runner.now job.settings.serial }
+fn serve_profiled<X: Runner>(by: &X, job: Job, guests: Guests) -> Seen<Profile>
+    requires kind { X.may_run by.now job.settings.serial }
     requires command { job.settings.command ≡ Command.Run RunOutput.Profile }
     ensures observes { IfOk result (λ counted. Observes job counted.report) }
     ensures guests { IfOk result (λ counted.
@@ -115,7 +115,7 @@ fn serve_profiled<X: Runner>(runner: &X, job: Job, guests: Guests) -> Seen<Profi
     let Handing { parts, waiting } = hand_out_all(job.alloc, job.settings.threads, guests)?;
     let Joined { parts, room, .. } = join_all(job.alloc, parts)?;
     let (alloc, settings, program) = (job.alloc, job.settings, ProgramTree::of(&job.loaded));
-    let ran = runner.run_joined(job, parts)?;
+    let ran = by.run_joined(job, parts)?;
     let observed = with_report(settings, program, ran, Vec::new(alloc));
     let text = observed.text;
     let Parted { parts, profiles } = part_all(room, observed.parts);
