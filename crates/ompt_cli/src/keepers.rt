@@ -11,7 +11,6 @@ use crate::observing::{Gave, run_alone, run_by_threads};
 use crate::writing::Made;
 use ompt_words::Command;
 use std::alloc::{AllocError, Global};
-use std::mem;
 use std::sync::Wait;
 use std::thread::Threads;
 use tool_api::ToolPart;
@@ -37,18 +36,18 @@ pub(crate) trait Keeper: ToolPart {
         ensures { IfOk result (λ text. (events : List EventRecord) → AreKept keep events parts.now →
             text.items ≡ text_of command events printed.now) };
 
-    /// Runs the job, which is serial, with the parts of this list, which it takes out of it. Parts may be sent to
-    /// threads, and nothing says of a type parameter of a method that it may be sent. So each kind makes its own runs.
-    fn run_alone(job: Job, parts: &mut Vec<Self>) -> Gave<Self>
+    /// Runs the job, which is serial, with these parts. Parts may be sent to threads, and nothing says of a type
+    /// parameter of a method that it may be sent. So each kind makes its own runs.
+    fn run_alone(job: Job, parts: Vec<Self>) -> Gave<Self>
         requires serial { job.settings.serial ≡ true }
-        requires parts { length parts.old.items ≡ job.settings.threads }
-        ensures { IfOk result (RunsJob Self.stands_for Self.same job parts.old.items) };
+        requires parts { length parts.items ≡ job.settings.threads }
+        ensures { IfOk result (RunsJob Self.stands_for Self.same job parts.items) };
 
     /// Does what [`Keeper::run_alone`] does for each job, by threads where it isn't serial.
-    fn on_threads<R: Threads + Wait + Sync>(rt: &R, job: Job, parts: &mut Vec<Self>) -> Gave<Self>
+    fn on_threads<R: Threads + Wait + Sync>(rt: &R, job: Job, parts: Vec<Self>) -> Gave<Self>
         requires sync { IsSync R.row }
-        requires parts { length parts.old.items ≡ job.settings.threads }
-        ensures { IfOk result (RunsJob Self.stands_for Self.same job parts.old.items) };
+        requires parts { length parts.items ≡ job.settings.threads }
+        ensures { IfOk result (RunsJob Self.stands_for Self.same job parts.items) };
 
     ghost stands: { (kept : Self) (h : Record) → KeeperFor keep kept h ↔ Self.stands_for kept h };
 }
@@ -71,14 +70,12 @@ impl Keeper for Recorder {
         }
     }
 
-    fn run_alone(job: Job, parts: &mut Vec<Self>) -> Gave<Self> {
-        let list = mem::replace(parts, Vec::new(job.alloc));
-        run_alone(job, list)
+    fn run_alone(job: Job, parts: Vec<Self>) -> Gave<Self> {
+        run_alone(job, parts)
     }
 
-    fn on_threads<R: Threads + Wait + Sync>(rt: &R, job: Job, parts: &mut Vec<Self>) -> Gave<Self> {
-        let list = mem::replace(parts, Vec::new(job.alloc));
-        run_by_threads(rt, job, list)
+    fn on_threads<R: Threads + Wait + Sync>(rt: &R, job: Job, parts: Vec<Self>) -> Gave<Self> {
+        run_by_threads(rt, job, parts)
     }
 
     ghost stands = { λ kept h. (λ for. for, λ for. for) };
@@ -100,14 +97,12 @@ impl Keeper for Profile {
         profile_text(alloc, parts)
     }
 
-    fn run_alone(job: Job, parts: &mut Vec<Self>) -> Gave<Self> {
-        let list = mem::replace(parts, Vec::new(job.alloc));
-        run_alone(job, list)
+    fn run_alone(job: Job, parts: Vec<Self>) -> Gave<Self> {
+        run_alone(job, parts)
     }
 
-    fn on_threads<R: Threads + Wait + Sync>(rt: &R, job: Job, parts: &mut Vec<Self>) -> Gave<Self> {
-        let list = mem::replace(parts, Vec::new(job.alloc));
-        run_by_threads(rt, job, list)
+    fn on_threads<R: Threads + Wait + Sync>(rt: &R, job: Job, parts: Vec<Self>) -> Gave<Self> {
+        run_by_threads(rt, job, parts)
     }
 
     ghost stands = { λ kept h. (λ for. for, λ for. for) };
@@ -133,14 +128,12 @@ impl Keeper for Timeline {
         }
     }
 
-    fn run_alone(job: Job, parts: &mut Vec<Self>) -> Gave<Self> {
-        let list = mem::replace(parts, Vec::new(job.alloc));
-        run_alone(job, list)
+    fn run_alone(job: Job, parts: Vec<Self>) -> Gave<Self> {
+        run_alone(job, parts)
     }
 
-    fn on_threads<R: Threads + Wait + Sync>(rt: &R, job: Job, parts: &mut Vec<Self>) -> Gave<Self> {
-        let list = mem::replace(parts, Vec::new(job.alloc));
-        run_by_threads(rt, job, list)
+    fn on_threads<R: Threads + Wait + Sync>(rt: &R, job: Job, parts: Vec<Self>) -> Gave<Self> {
+        run_by_threads(rt, job, parts)
     }
 
     ghost stands = { λ kept h. (λ for. for, λ for. for) };
