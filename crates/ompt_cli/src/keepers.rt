@@ -2,7 +2,7 @@
 
 ghost use Rattle.std.specs.Prelude.{ℕ, ◌≡◌, ◌↔◌, IfOk, List, [], length, replicate, true};
 ghost use Rattle.std.specs.Thread.{IsSync};
-ghost use Rattle.ompt_cli.specs.Names.{Record, EventRecord, generated, summary_of, AreKept, AreShared, KeeperFor};
+ghost use Rattle.ompt_cli.specs.Names.{Record, EventRecord, AreKept, KeeperFor};
 ghost use Rattle.ompt_words.specs.declared.settings.Command.{Command as SeenCommand};
 ghost use Rattle.ompt_cli.specs.{Commands.columns_in, Reports.RunsJob};
 
@@ -65,7 +65,11 @@ impl Keeper for Recorder {
 
     fn text(alloc: Global, command: Command, parts: &[Recorder], printed: &[u8]) -> Made {
         match command {
-            Command::Generate(blocks) => summary(alloc, blocks, parts, printed),
+            Command::Generate(blocks) => {
+                let program = generated_text(alloc, blocks)?;
+                let events = merge(alloc, parts)?;
+                summary_text(alloc, &program, &events, printed)
+            }
             _ => lines_text(alloc, parts),
         }
     }
@@ -148,14 +152,4 @@ pub(crate) fn keepers<P: Keeper>(alloc: Global, threads: u8) -> Result<Vec<P>, A
         parts.push(P::fresh(alloc))?;
     }
     Ok(parts)
-}
-
-/// The summary of a run of the program with so many blocks: these recorders were told of the run, and it printed this text.
-fn summary(alloc: Global, blocks: u16, parts: &[Recorder], printed: &[u8]) -> Made
-    ensures { IfOk result (λ text. (events : List EventRecord) → AreShared events parts.now →
-        text.items ≡ summary_of (generated blocks) events printed.now) }
-{
-    let program = generated_text(alloc, blocks)?;
-    let events = merge(alloc, parts)?;
-    summary_text(alloc, &program, &events, printed)
 }
