@@ -64,13 +64,9 @@ fn serve<X: Runner>(by: &X, job: Job, guests: Guests) -> Result<(Report, Vec<u8>
     let Handing { parts, waiting } = hand_out_all(job.alloc, job.settings.threads, guests)?;
     let (alloc, settings, program) = (job.alloc, job.settings, ProgramTree::of(&job.loaded));
     let ran = by.run_guests(job, parts)?;
-    let observed = with_report(settings, program, ran, Vec::new(alloc));
-    let text = observed.text;
-    let report = Report {
-        guests: take_back_all(observed.parts, waiting),
-        ..observed.report
-    };
-    Ok((report, text))
+    let mut observed = with_report(settings, program, ran, Vec::new(alloc));
+    observed.report.guests = take_back_all(observed.parts, waiting);
+    Ok((observed.report, observed.text))
 }
 
 /// Runs the job, and writes what the program printed, and then how many calls of each callback there were. Guest t is the part of thread t beside a profile.
@@ -116,17 +112,13 @@ fn serve_profiled<X: Runner>(by: &X, job: Job, guests: Guests) -> Seen<Profile>
     let Joined { parts, room, .. } = join_all(job.alloc, parts)?;
     let (alloc, settings, program) = (job.alloc, job.settings, ProgramTree::of(&job.loaded));
     let ran = by.run_joined(job, parts)?;
-    let observed = with_report(settings, program, ran, Vec::new(alloc));
-    let text = observed.text;
+    let mut observed = with_report(settings, program, ran, Vec::new(alloc));
     let Parted { parts, profiles } = part_all(room, observed.parts);
-    let report = Report {
-        guests: take_back_all(parts, waiting),
-        ..observed.report
-    };
+    observed.report.guests = take_back_all(parts, waiting);
     Ok(Observed {
-        report,
+        report: observed.report,
         parts: profiles,
-        text,
+        text: observed.text,
     })
 }
 
