@@ -10,7 +10,7 @@ use Rattle.team_run.specs.Serving.{RunsParts, called_for, finished_by, record_of
 use Rattle.team_run.specs.Standing.{AreSilent, HearsOwn}
 use Rattle.tool_api.specs.Record.{finalized}
 use Rattle.ompt_cli.specs.Names.{Item, Record, StartedWith, StoresNothing, PROFILE_MASK, KeeperFor, AreKept, AreShared, Entry, EventRecord, Run, heard, heard_of, Legal, record_of, records_of, SEQ_LIMIT, mask_of, initialized, Cause}
-use Rattle.ompt_cli.{specs.Reports.HasKept, specs.Reports.HasObserved, specs.declared.observing.Observed.Observed, specs.declared.job.Job.Job, specs.Commands.run_of, proofs.Telling.threads-are}
+use Rattle.ompt_cli.{specs.Reports.HasKept, specs.Reports.HasObserved, specs.declared.observing.ObservedRun.ObservedRun, specs.declared.job.Job.Job, specs.Commands.run_of, proofs.Telling.threads-are}
 
 -- the record of part k once the run has started, and once it has ended
 abbrev pub begun_at : ℕ → ℕ → ℕ → Record → Record
@@ -94,7 +94,7 @@ kept-shares {A} keep run H threads parts as_many each some legal same own =
     }
 
 -- A report of a run of parts that stand for what they keep
-module _ {Table : Type 0} {Behind : Table → Type 0} {A : Type 0} (keep : List EventRecord → A) (stands : A → Record → Type 0) (into : (kept : A) (h : Record) → KeeperFor keep kept h → stands kept h) (out : (kept : A) (h : Record) → stands kept h → KeeperFor keep kept h) (Same : A → A → Type 0) (job : Job) (observed : Observed A Table Behind) (has : HasObserved stands Same job (replicate job.settings.threads (keep [])) observed) where
+module _ {Table : Type 0} {Behind : Table → Type 0} {A : Type 0} (keep : List EventRecord → A) (stands : A → Record → Type 0) (into : (kept : A) (h : Record) → KeeperFor keep kept h → stands kept h) (out : (kept : A) (h : Record) → stands kept h → KeeperFor keep kept h) (Same : A → A → Type 0) (job : Job) (observed : ObservedRun A Table Behind) (has : HasObserved stands Same job (replicate job.settings.threads (keep [])) observed) where
   abbrev threads : ℕ
   threads = job.settings.threads
 

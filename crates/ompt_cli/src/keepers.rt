@@ -8,7 +8,7 @@ ghost use Rattle.ompt_cli.specs.{Commands.columns_in, Reports.RunsJob};
 
 use crate::job::Job;
 use crate::observing::{Gave, run_alone, run_by_threads};
-use crate::writing::Made;
+use crate::writing::Lines;
 use ompt_words::Command;
 use std::alloc::{AllocError, Global};
 use std::sync::Wait;
@@ -32,7 +32,7 @@ pub(crate) trait Keeper: ToolPart {
         ensures { result ≡ keep [] };
 
     /// What the command makes of what these parts keep and of what the program printed.
-    fn text(alloc: Global, command: Command, parts: &[Self], printed: &[u8]) -> Made
+    fn text(alloc: Global, command: Command, parts: &[Self], printed: &[u8]) -> Lines
         ensures { IfOk result (λ text. (events : List EventRecord) → AreKept keep events parts.now →
             text.items ≡ text_of command events printed.now) };
 
@@ -63,7 +63,7 @@ impl Keeper for Recorder {
         Recorder::new(alloc)
     }
 
-    fn text(alloc: Global, command: Command, parts: &[Recorder], printed: &[u8]) -> Made {
+    fn text(alloc: Global, command: Command, parts: &[Recorder], printed: &[u8]) -> Lines {
         match command {
             Command::Generate(blocks) => {
                 let program = generated_text(alloc, blocks)?;
@@ -97,7 +97,7 @@ impl Keeper for Profile {
         Profile::new()
     }
 
-    fn text(alloc: Global, _command: Command, parts: &[Profile], _printed: &[u8]) -> Made {
+    fn text(alloc: Global, _command: Command, parts: &[Profile], _printed: &[u8]) -> Lines {
         profile_text(alloc, parts)
     }
 
@@ -125,7 +125,7 @@ impl Keeper for Timeline {
         Timeline::new(alloc)
     }
 
-    fn text(alloc: Global, command: Command, parts: &[Timeline], _printed: &[u8]) -> Made {
+    fn text(alloc: Global, command: Command, parts: &[Timeline], _printed: &[u8]) -> Lines {
         match command {
             Command::Timeline(columns) => timeline_text(alloc, parts, columns),
             _ => timeline_text(alloc, parts, 0),

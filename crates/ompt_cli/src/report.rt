@@ -4,7 +4,7 @@ ghost use Rattle.std.specs.Prelude.{◌≡◌, ◌↔◌, None, IsTrue};
 ghost use Rattle.ompt_cli.specs.{Reports.HasPrinted, Text.IsOf};
 
 use crate::end::End;
-use crate::job::Loaded;
+use crate::job::LoadedProgram;
 use c_check::Program;
 use omp_model::{Cause, History};
 use ompt_words::{Command, ReadCommand, RunOutput, Settings};
@@ -24,7 +24,7 @@ pub struct ProgramTree {
 
 impl ProgramTree {
     /// The tree of the program, with its text.
-    pub(crate) fn of(loaded: &Loaded) -> ProgramTree
+    pub(crate) fn of(loaded: &LoadedProgram) -> ProgramTree
         ensures { IsOf loaded.now result }
     {
         ProgramTree {

@@ -11,7 +11,7 @@ use crate::end::End;
 use crate::guests::Guests;
 use crate::job::Job;
 use crate::keepers::{Keeper, keepers};
-use crate::observing::{Observed, Seen, with_report};
+use crate::observing::{Observation, ObservedRun, with_report};
 use crate::report::{AfterRun, Came, ProgramTree};
 use crate::runner::Runner;
 use crate::writing::write_made;
@@ -48,7 +48,7 @@ pub(crate) fn report_kept<X: Runner, P: Keeper, O: Sink>(
 }
 
 /// Runs the job with a part for each thread that keeps what it is told. The guests of the report are these.
-pub(crate) fn run_kept<X: Runner, P: Keeper>(by: &X, job: Job, guests: Guests) -> Seen<P>
+pub(crate) fn run_kept<X: Runner, P: Keeper>(by: &X, job: Job, guests: Guests) -> Observation<P>
     requires { X.may_run by.now job.settings.serial }
     ensures kept { IfOk result (HasKept P.keep job) }
     ensures guests { IfOk result (λ observed. observed.report.guests ≡ guests) }
@@ -68,7 +68,7 @@ pub(crate) fn record<X: Runner, O: Sink>(by: &X, job: Job, guests: Guests, out: 
     ensures untouched { OnErr result (out.new ≡ out.old) }
 {
     let alloc = job.alloc;
-    let Observed { report, parts, .. } = run_kept::<X, Recorder>(by, job, guests)?;
+    let ObservedRun { report, parts, .. } = run_kept::<X, Recorder>(by, job, guests)?;
     let end = write_trace_of_run(alloc, report.threads, report.cause, &parts, out);
     Ok(AfterRun { end, report })
 }

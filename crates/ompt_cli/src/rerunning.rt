@@ -7,7 +7,7 @@ ghost use Rattle.ompt_cli.specs.Names.{SeenFile, IsCertificate, run_of_file, IsH
 
 use crate::end::End;
 use crate::text::program_of;
-use crate::writing::{Made, write_read};
+use crate::writing::{Lines, write_read};
 use c_check::Program;
 use history_file::{
     HISTORY_LIMIT, HeardCall, HistoryFault, HistoryFile, HistoryReason, Verdict, read_history,
@@ -91,7 +91,7 @@ fn judge<O: Sink>(alloc: Global, program: Program, file: &HistoryFile, out: &mut
 }
 
 /// A line for each call that was heard, and one for how the run of the file ended.
-fn heard_text(alloc: Global, file: &HistoryFile, calls: &[HeardCall]) -> Made
+fn heard_text(alloc: Global, file: &HistoryFile, calls: &[HeardCall]) -> Lines
     requires { length file.now.history < 2 ^ 32 }
     ensures { IfOk result (λ text. text.items ≡ lines_of_calls calls.now ++
         line_of_mark (record { status = file.now.status; detail = file.now.detail; count = length file.now.history })) }
@@ -107,7 +107,7 @@ fn heard_text(alloc: Global, file: &HistoryFile, calls: &[HeardCall]) -> Made
 }
 
 /// A line for each call, in their order.
-fn calls_text(alloc: Global, calls: &[HeardCall]) -> Made
+fn calls_text(alloc: Global, calls: &[HeardCall]) -> Lines
     ensures { IfOk result (λ text. text.items ≡ lines_of_calls calls.now) }
 {
     let mut text = Vec::new(alloc);

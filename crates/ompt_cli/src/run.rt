@@ -11,10 +11,10 @@ ghost use Rattle.ompt_cli.specs.{declared.job.Job.Job, Guests.GuestsAfter, Repor
 use crate::end::End;
 use crate::guests::{Guests, Handing, hand_out_all, take_back_all};
 use crate::job::Job;
-use crate::observing::{Observed, Seen, with_report};
+use crate::observing::{Observation, ObservedRun, with_report};
 use crate::report::{AfterRun, Came, ProgramTree, Report};
 use crate::runner::Runner;
-use crate::writing::{Made, write_made, write_run};
+use crate::writing::{Lines, write_made, write_run};
 use history_file::{FileText, HistoryFile, end_of, write_history};
 use omp_model::Cause;
 use ompt_calls::Sequence;
@@ -86,7 +86,7 @@ pub(crate) fn run_profile<X: Runner, O: Sink>(by: &X, job: Job, guests: Guests, 
 }
 
 /// This text, and behind it the report of what these profiles counted.
-fn with_profile(alloc: Global, printed: Vec<u8>, profiles: &[Profile]) -> Made
+fn with_profile(alloc: Global, printed: Vec<u8>, profiles: &[Profile]) -> Lines
     ensures { IfOk result (λ text. (events : List EventRecord) → AreKept counts_of events profiles.now →
         text.items ≡ printed.items ++ profile_of events) }
 {
@@ -97,7 +97,7 @@ fn with_profile(alloc: Global, printed: Vec<u8>, profiles: &[Profile]) -> Made
 }
 
 /// Runs the job with the guests beside profiles. The guests are back in the report, and the parts are the profiles.
-fn serve_profiled<X: Runner>(by: &X, job: Job, guests: Guests) -> Seen<Profile>
+fn serve_profiled<X: Runner>(by: &X, job: Job, guests: Guests) -> Observation<Profile>
     requires kind { X.may_run by.now job.settings.serial }
     requires command { job.settings.command ≡ Command.Run RunOutput.Profile }
     ensures observes { IfOk result (λ counted. Observes job counted.report) }
@@ -115,7 +115,7 @@ fn serve_profiled<X: Runner>(by: &X, job: Job, guests: Guests) -> Seen<Profile>
     let mut observed = with_report(settings, program, ran, Vec::new(alloc));
     let Parted { parts, profiles } = part_all(room, observed.parts);
     observed.report.guests = take_back_all(parts, waiting);
-    Ok(Observed {
+    Ok(ObservedRun {
         report: observed.report,
         parts: profiles,
         text: observed.text,

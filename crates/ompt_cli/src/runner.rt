@@ -4,7 +4,7 @@ ghost use Rattle.std.specs.{Prelude.◌≡◌, Prelude.Bool, Prelude.IfOk, Prelu
 ghost use Rattle.ompt_cli.specs.Names.{HandedFor, SameHanded, ProfiledFor, SameProfiled};
 ghost use Rattle.ompt_cli.specs.Reports.{RunsJob};
 
-use crate::guests::Held;
+use crate::guests::Part;
 use crate::job::Job;
 use crate::keepers::Keeper;
 use crate::observing::{Gave, run_alone, run_by_threads};
@@ -24,14 +24,14 @@ pub(crate) trait Runner {
         ensures { IfOk result (RunsJob P.stands_for P.same job parts.items) };
 
     /// Runs the job with these parts, which are guests.
-    fn run_guests(&self, job: Job, parts: Vec<Held>) -> Gave<Held>
+    fn run_guests(&self, job: Job, parts: Vec<Part>) -> Gave<Part>
         requires kind { may_run self.now job.settings.serial }
         requires parts { length parts.items ≡ job.settings.threads }
         ensures { IfOk result (RunsJob (HandedFor (λ guest h. (GuestTool-box guest.0).stands_for guest.0.value h))
             (SameHanded (λ guest other. guest.0.vtable ≡ other.0.vtable)) job parts.items) };
 
     /// Runs the job with these parts, which are joined with profiles.
-    fn run_joined(&self, job: Job, parts: Vec<Profiled<Held>>) -> Gave<Profiled<Held>>
+    fn run_joined(&self, job: Job, parts: Vec<Profiled<Part>>) -> Gave<Profiled<Part>>
         requires kind { may_run self.now job.settings.serial }
         requires parts { length parts.items ≡ job.settings.threads }
         ensures { IfOk result (RunsJob
@@ -50,11 +50,11 @@ impl Runner for Alone {
         P::run_alone(job, parts)
     }
 
-    fn run_guests(&self, job: Job, parts: Vec<Held>) -> Gave<Held> {
+    fn run_guests(&self, job: Job, parts: Vec<Part>) -> Gave<Part> {
         run_alone(job, parts)
     }
 
-    fn run_joined(&self, job: Job, parts: Vec<Profiled<Held>>) -> Gave<Profiled<Held>> {
+    fn run_joined(&self, job: Job, parts: Vec<Profiled<Part>>) -> Gave<Profiled<Part>> {
         run_alone(job, parts)
     }
 }
@@ -70,11 +70,11 @@ impl<'a, R: Threads + Wait + Sync> Runner for WithThreads<'a, R> {
         P::on_threads(self.0, job, parts)
     }
 
-    fn run_guests(&self, job: Job, parts: Vec<Held>) -> Gave<Held> {
+    fn run_guests(&self, job: Job, parts: Vec<Part>) -> Gave<Part> {
         run_by_threads(self.0, job, parts)
     }
 
-    fn run_joined(&self, job: Job, parts: Vec<Profiled<Held>>) -> Gave<Profiled<Held>> {
+    fn run_joined(&self, job: Job, parts: Vec<Profiled<Part>>) -> Gave<Profiled<Part>> {
         run_by_threads(self.0, job, parts)
     }
 }
