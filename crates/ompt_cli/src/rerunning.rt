@@ -96,24 +96,16 @@ fn heard_text(alloc: Global, file: &HistoryFile, calls: &[HeardCall]) -> Lines
     ensures { IfOk result (λ text. text.items ≡ lines_of_calls calls.now ++
         line_of_mark (record { status = file.now.status; detail = file.now.detail; count = length file.now.history })) }
 {
-    let mut text = calls_text(alloc, calls)?;
+    let mut text = Vec::new(alloc);
+    for call in calls {
+        let line = line_of(alloc, call.seq, call.thread, &call.call)?;
+        text.extend_from_slice(line.as_slice())?;
+    }
     let end = line_of_end(EndMark {
         status: file.status,
         detail: file.detail,
         count: file.history.as_slice().len() as u32,
     });
     text.extend_from_slice(end.as_str().as_bytes())?;
-    Ok(text)
-}
-
-/// A line for each call, in their order.
-fn calls_text(alloc: Global, calls: &[HeardCall]) -> Lines
-    ensures { IfOk result (λ text. text.items ≡ lines_of_calls calls.now) }
-{
-    let mut text = Vec::new(alloc);
-    for call in calls {
-        let line = line_of(alloc, call.seq, call.thread, &call.call)?;
-        text.extend_from_slice(line.as_slice())?;
-    }
     Ok(text)
 }
