@@ -237,7 +237,7 @@ module _ {S O : Type 0} (left : S → Option (List ℕ)) (reads_failed : S → �
           untouched = record {
             untouched = λ is. (refl, kept (answers.unshown (inl is)));
             unasked = λ no_run no_read. refl;
-            unread = shown-same shown;
+            unread = elim shown as (λ (of : Option (String Global)). IfSome of (λ text. source ≡ source)) [ None ↦ tt | Some text ↦ refl ];
             unread_input = λ command ask none. (refl, kept (answers.unshown (inr (no-memory_read command ask))));
             generates = λ settings ask blocks same. refl;
           };
@@ -248,39 +248,25 @@ module _ {S O : Type 0} (left : S → Option (List ℕ)) (reads_failed : S → �
         shows-text ran read no_run no_read None shows = tt
         shows-text ran read no_run no_read (Some text) shows = (faulty.shown text shows.0, shows.1, no_run, no_read)
 
-        shown-same : (shown : Option (String Global)) → IfSome shown (λ text. source ≡ source)
-        shown-same None = tt
-        shown-same (Some text) = refl
-
-    pub usage_carried : {Table : Type 0} {Behind : Table → Type 0} (source : S) (out : O) → found ≡ fault.Usage → CarriesOut {Table = Table} {Behind = Behind} left reads_failed held writes_failed words end.Usage None None None source source out out
-    usage_carried source out is =
-        unread_carried end.Usage None source out out
+    -- no text is shown: the words are refused, or there was no memory for them
+    pub refused_carried : {Table : Type 0} {Behind : Table → Type 0} (told : End) (source : S) (out : O) → ((found ≡ fault.Usage) × (told ≡ end.Usage)) ⊎ ((found ≡ fault.Memory) × (told ≡ end.Memory))
+        → CarriesOut {Table = Table} {Behind = Behind} left reads_failed held writes_failed words told None None None source source out out
+    refused_carried told source out which =
+        let unlike : (other : End) → (other ≡ end.Usage → ⊥) → (other ≡ end.Memory → ⊥) → told ≢ other =
+        λ other first second same. elim which [ inl this ↦ first (sym same ∙ this.1) | inr this ↦ second (sym same ∙ this.1) ] in
+        let failed : told ≢ end.WriteFault = unlike end.WriteFault (λ same. cc) (λ same. cc) in
+        unread_carried told None source out out
         (record {
-          unread = tt;
-          used = λ same. is;
+          unread = elim which [ inl this ↦ subst IsUnread (sym this.1) tt | inr this ↦ subst IsUnread (sym this.1) tt ];
+          used = λ same. elim which [ inl this ↦ this.0 | inr this ↦ let wrong : end.Memory ≡ end.Usage = sym this.1 ∙ same in cc ];
           unshown = λ why. refl;
-          memory = λ same. absurd cc;
+          memory = λ same. elim which [ inl this ↦ let wrong : fault.Usage ≡ fault.Memory = sym this.0 ∙ same in cc | inr this ↦ this.1 ];
           shows = tt;
-          displayed = λ why. absurd (elim why [ inl same ↦ cc | inr same ↦ cc ]);
-          help = λ ask. absurd (subst IsTextOrMemory is ask);
-          clash = λ both. inl refl;
+          displayed = λ why. absurd (elim why [ inl same ↦ unlike end.Shown (λ same. cc) (λ same. cc) same | inr same ↦ failed same ]);
+          help = λ ask. elim which [ inl this ↦ absurd (subst IsTextOrMemory this.0 ask) | inr this ↦ subst IsShowing (sym this.1) tt ];
+          clash = λ both. elim which [ inl this ↦ inl this.1 | inr this ↦ inr this.1 ];
         })
-        (nothing-written end.Usage (held out) (λ same. cc)) (nothing-counted end.Usage end.WriteFault (writes_failed out) (λ same. cc)) (λ none. refl)
-
-    pub memory_carried : {Table : Type 0} {Behind : Table → Type 0} (source : S) (out : O) → CarriesOut {Table = Table} {Behind = Behind} left reads_failed held writes_failed words end.Memory None None None source source out out
-    memory_carried source out =
-        unread_carried end.Memory None source out out
-        (record {
-          unread = tt;
-          used = λ same. absurd cc;
-          unshown = λ why. refl;
-          memory = λ same. refl;
-          shows = tt;
-          displayed = λ why. absurd (elim why [ inl same ↦ cc | inr same ↦ cc ]);
-          help = λ ask. tt;
-          clash = λ both. inr refl;
-        })
-        (nothing-written end.Memory (held out) (λ same. cc)) (nothing-counted end.Memory end.WriteFault (writes_failed out) (λ same. cc)) (λ none. refl)
+        (nothing-written told (held out) failed) (nothing-counted told end.WriteFault (writes_failed out) failed) (λ none. refl)
 
     pub shown_carried : {Table : Type 0} {Behind : Table → Type 0} (text : String Global) (told : End) (source : S) (out out_now : O) → found ≡ fault.Shown text → (told ≡ end.Shown) ⊎ (told ≡ end.WriteFault) → HasWritten told (string_bytes text) (held out) (held out_now)
         → CountsFaults told end.WriteFault (writes_failed out) (writes_failed out_now) → CarriesOut {Table = Table} {Behind = Behind} left reads_failed held writes_failed words told (Some text) None None source source out out_now

@@ -1,6 +1,6 @@
 //! The command `rerun`: it reads a history file, and says whether it is a certificate.
 
-ghost use Rattle.std.specs.Prelude.{ℕ, ◌<◌, ◌^◌, ◌≡◌, ◌≢◌, ◌⊎◌, ◌++◌, Err, IfErr, IfOk, IfSome, IsSomeAnd, List, MatchResult, Option, Some, length};
+ghost use Rattle.std.specs.Prelude.{ℕ, ◌<◌, ◌^◌, ◌≡◌, ◌≢◌, ◌⊎◌, ◌++◌, Err, IfErr, IfOk, IfSome, IsSomeAnd, List, MatchResult, Option, length};
 ghost use Rattle.ompt_cli.specs.{Commands.CountsFaults, Commands.IsReading, Histories.Certifies, Histories.HasFile, Histories.HasRerun};
 ghost use Rattle.ompt_cli.specs.{Histories.IsUnreadFile, Histories.MayCertify, Histories.lines_of_calls, Names.Rose, Names.line_of_mark};
 ghost use Rattle.ompt_cli.specs.Names.{SeenFile, IsCertificate, run_of_file, IsHistoryFile, WritesHistory};
