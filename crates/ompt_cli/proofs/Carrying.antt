@@ -1,7 +1,7 @@
 -- What each way through the top call carries out, in the words of its contract.
 use Rattle.std.proofs.Common.{ℕ, ◌≡◌, ◌≢◌, ◌⊎◌, ◌∙◌, List, [], Option, Some, None, IfSome, IsNone, IsSomeAnd, true, inl, inr, refl, sym, ap, subst}
 use Rattle.std.specs.Prelude.{IsSome, string_bytes}
-use Rattle.std.{proofs.lemmas.List.append-nil, specs.Io.KnownBytes.Appends, specs.Io.KnownBytes.Keeps, specs.declared.string.String.String, specs.declared.alloc.Global.Global, specs.declared.dyn_box.DynBox.DynBox}
+use Rattle.std.{proofs.lemmas.List.append-nil, specs.declared.string.String.String, specs.declared.alloc.Global.Global, specs.declared.dyn_box.DynBox.DynBox}
 use Rattle.omp_model.specs.declared.cause.Cause.TheVariants as causes
 use Rattle.ompt_words.specs.declared.fault.WordsFault.TheVariants as fault
 use Rattle.ompt_words.specs.declared.settings.Request.TheVariants as request
@@ -10,24 +10,16 @@ use Rattle.ompt_cli.specs.declared.end.End.TheVariants as end
 use Rattle.run_laws.proofs.Ended.{whole-ended}
 use Rattle.ompt_cli.specs.Names.{Record, Cause, WordsFault, Generating, Request, Settings, ReadCommand, AreReadAs, AskForText, HoldBoth, IsTextOrMemory, IsUsageOrMemory, AskInForm, InForm, ReadInForm, own_settings, HistoryFile, WritesHistory}
 use Rattle.ompt_cli.specs.Commands.{CountsFaults, EndsAs, EndsRun, HasWritten, IsBeforeRun, IsReading, IsShowing, IsUnread, MayRefuse, MayRun, out_of, run_text, program_in, run_of, settings_in, text_in}
-use Rattle.ompt_cli.specs.Words.{AreFaulty, AreInRange, AreTakenAs, AskFor, AskForRun, AskToRead}
+use Rattle.ompt_cli.specs.Words.{AreFaulty, AreTakenAs, AskFor, AskForRun, AskToRead}
 use Rattle.ompt_cli.proofs.Telling.{before-run, ends-may, few-threads, may-run, same-settings, shows-faults, some-threads}
 use Rattle.ompt_cli.specs.Text.{EndsFor, IsLoaded, IsProgram, IsRefused, Spells, text_for}
 use Rattle.ompt_cli.{specs.Top.CarriesOut, specs.Top.IsRunOf, specs.Top.HasTrace, specs.declared.end.End.End, specs.declared.end.Refusal.Refusal, specs.declared.job.Job.Job, specs.declared.report.Report.Report, specs.Histories.Certifies, specs.Histories.MayCertify, specs.Reports.Reports, specs.Traces.HasRead, proofs.Halting.finished, proofs.Halting.nested-run, proofs.Reading.loaded-unrefused}
 use Rattle.ompt_cli.{proofs.Written.ends-found, proofs.Written.filed-text, proofs.Written.trace_unbroken, proofs.Written.trace_unrefused}
 
--- nothing is appended where nothing changed, and nothing is written
-nothing-appended : (held : Option (List ℕ)) → Appends held held []
-nothing-appended None = tt
-nothing-appended (Some bytes) = sym (append-nil bytes)
-
-nothing-kept : (held : Option (List ℕ)) → Keeps held held
-nothing-kept None = tt
-nothing-kept (Some bytes) = refl
-
+-- nothing is written where nothing changed
 nothing-written : (told : End) (held : Option (List ℕ)) → told ≢ end.WriteFault → HasWritten told [] held held
-nothing-written told held other =
-    record { listed = λ whole memory. nothing-appended held; part = λ is. absurd (other is); kept = λ is. nothing-kept held }
+nothing-written told None other = record { listed = λ whole memory. tt; part = λ is. absurd (other is); kept = λ is. tt }
+nothing-written told (Some bytes) other = record { listed = λ whole memory. sym (append-nil bytes); part = λ is. absurd (other is); kept = λ is. refl }
 
 -- nor counted
 nothing-counted : (told faulty : End) (count : ℕ) → told ≢ faulty → CountsFaults told faulty count count
@@ -245,7 +237,7 @@ module _ {S O : Type 0} (left : S → Option (List ℕ)) (reads_failed : S → �
           untouched = record {
             untouched = λ is. (refl, kept (answers.unshown (inl is)));
             unasked = λ no_run no_read. refl;
-            unread = shown-same shown;
+            unread = elim shown as (λ (of : Option (String Global)). IfSome of (λ text. source ≡ source)) [ None ↦ tt | Some text ↦ refl ];
             unread_input = λ command ask none. (refl, kept (answers.unshown (inr (no-memory_read command ask))));
             generates = λ settings ask blocks same. refl;
           };
@@ -256,39 +248,25 @@ module _ {S O : Type 0} (left : S → Option (List ℕ)) (reads_failed : S → �
         shows-text ran read no_run no_read None shows = tt
         shows-text ran read no_run no_read (Some text) shows = (faulty.shown text shows.0, shows.1, no_run, no_read)
 
-        shown-same : (shown : Option (String Global)) → IfSome shown (λ text. source ≡ source)
-        shown-same None = tt
-        shown-same (Some text) = refl
-
-    pub usage_carried : {Table : Type 0} {Behind : Table → Type 0} (source : S) (out : O) → found ≡ fault.Usage → CarriesOut {Table = Table} {Behind = Behind} left reads_failed held writes_failed words end.Usage None None None source source out out
-    usage_carried source out is =
-        unread_carried end.Usage None source out out
+    -- no text is shown: the words are refused, or there was no memory for them
+    pub refused_carried : {Table : Type 0} {Behind : Table → Type 0} (told : End) (source : S) (out : O) → ((found ≡ fault.Usage) × (told ≡ end.Usage)) ⊎ ((found ≡ fault.Memory) × (told ≡ end.Memory))
+        → CarriesOut {Table = Table} {Behind = Behind} left reads_failed held writes_failed words told None None None source source out out
+    refused_carried told source out which =
+        let unlike : (other : End) → (other ≡ end.Usage → ⊥) → (other ≡ end.Memory → ⊥) → told ≢ other =
+        λ other first second same. elim which [ inl this ↦ first (sym same ∙ this.1) | inr this ↦ second (sym same ∙ this.1) ] in
+        let failed : told ≢ end.WriteFault = unlike end.WriteFault (λ same. cc) (λ same. cc) in
+        unread_carried told None source out out
         (record {
-          unread = tt;
-          used = λ same. is;
+          unread = elim which [ inl this ↦ subst IsUnread (sym this.1) tt | inr this ↦ subst IsUnread (sym this.1) tt ];
+          used = λ same. elim which [ inl this ↦ this.0 | inr this ↦ let wrong : end.Memory ≡ end.Usage = sym this.1 ∙ same in cc ];
           unshown = λ why. refl;
-          memory = λ same. absurd cc;
+          memory = λ same. elim which [ inl this ↦ let wrong : fault.Usage ≡ fault.Memory = sym this.0 ∙ same in cc | inr this ↦ this.1 ];
           shows = tt;
-          displayed = λ why. absurd (elim why [ inl same ↦ cc | inr same ↦ cc ]);
-          help = λ ask. absurd (subst IsTextOrMemory is ask);
-          clash = λ both. inl refl;
+          displayed = λ why. absurd (elim why [ inl same ↦ unlike end.Shown (λ same. cc) (λ same. cc) same | inr same ↦ failed same ]);
+          help = λ ask. elim which [ inl this ↦ absurd (subst IsTextOrMemory this.0 ask) | inr this ↦ subst IsShowing (sym this.1) tt ];
+          clash = λ both. elim which [ inl this ↦ inl this.1 | inr this ↦ inr this.1 ];
         })
-        (nothing-written end.Usage (held out) (λ same. cc)) (nothing-counted end.Usage end.WriteFault (writes_failed out) (λ same. cc)) (λ none. refl)
-
-    pub memory_carried : {Table : Type 0} {Behind : Table → Type 0} (source : S) (out : O) → CarriesOut {Table = Table} {Behind = Behind} left reads_failed held writes_failed words end.Memory None None None source source out out
-    memory_carried source out =
-        unread_carried end.Memory None source out out
-        (record {
-          unread = tt;
-          used = λ same. absurd cc;
-          unshown = λ why. refl;
-          memory = λ same. refl;
-          shows = tt;
-          displayed = λ why. absurd (elim why [ inl same ↦ cc | inr same ↦ cc ]);
-          help = λ ask. tt;
-          clash = λ both. inr refl;
-        })
-        (nothing-written end.Memory (held out) (λ same. cc)) (nothing-counted end.Memory end.WriteFault (writes_failed out) (λ same. cc)) (λ none. refl)
+        (nothing-written told (held out) failed) (nothing-counted told end.WriteFault (writes_failed out) failed) (λ none. refl)
 
     pub shown_carried : {Table : Type 0} {Behind : Table → Type 0} (text : String Global) (told : End) (source : S) (out out_now : O) → found ≡ fault.Shown text → (told ≡ end.Shown) ⊎ (told ≡ end.WriteFault) → HasWritten told (string_bytes text) (held out) (held out_now)
         → CountsFaults told end.WriteFault (writes_failed out) (writes_failed out_now) → CarriesOut {Table = Table} {Behind = Behind} left reads_failed held writes_failed words told (Some text) None None source source out out_now
@@ -311,11 +289,6 @@ module _ {S O : Type 0} (left : S → Option (List ℕ)) (reads_failed : S → �
 pub taken-as : (words : List (List ℕ)) (found given : Request) → found ≡ given → AreReadAs words found → ((other : Request) → AreReadAs words other → found ≡ other) → ((form : InForm words) → found ≡ request.Run (own_settings form))
     → ((command : ReadCommand) → ReadInForm words command → found ≡ request.Read command) → (AskInForm words → ⊥) → (HoldBoth words → ⊥) → AreTakenAs words given
 taken-as words found given is read exact form read_form no_help not_both = subst (AreTakenAs words) is (record { read = read; exact = exact; form = form; read_form = read_form; no_help = no_help; not_both = not_both })
-
--- settings that words ask for are in range
-pub in-range : (words : List (List ℕ)) (settings : Settings) → AreTakenAs words (request.Run settings) → AreInRange settings
-in-range words settings taken =
-    record { some = taken.read.some_threads; few = taken.read.few_threads; steps = taken.read.some_steps; bounded = taken.read.few_steps }
 
 -- what is reported of a run is serial where the words ask for a serial one
 pub serial-reported : {Table : Type 0} {Behind : Table → Type 0} (words : List (List ℕ)) (settings : Settings) → AreTakenAs words (request.Run settings) → settings.serial ≡ true → (left : Option (List ℕ)) (told : End) (ran : Option (Report Table Behind))

@@ -11,7 +11,7 @@ use Rattle.ompt_calls.specs.declared.snapshot.Target.{Target}
 use Rattle.omp_model.specs.Legal.{AllowsFrom, after_from, back_from, does, entered, may, put_from}
 use Rattle.omp_model.specs.State.{Thread, World, first, region_at, thread_at, unmade, with_thread}
 use Rattle.omp_model.proofs.Turns.{halts-pending, turn-goes, turn-happens, turn-not_idle, turn-quiet}
-use Rattle.omp_model.specs.Cause.{cause_by_halt, cause_of_halt, cause_of_value, cause_of_whole, is_stuck, main_value, none_pending, whole_value}
+use Rattle.omp_model.specs.Cause.{cause_by_halt, cause_of_halt, cause_of_value, cause_of_whole, is_stuck, main_value, whole_value}
 use Rattle.omp_model.{specs.declared.history.What.TheVariants.Go, specs.declared.history.What.TheVariants.Put, specs.declared.history.What.TheVariants.Back, specs.Changes.with_invitations, specs.Changes.stage_once_made, specs.Changes.with_members_invited, specs.Changes.with_invitation, specs.Gates.arrival, specs.Gates.arrival_at, specs.Gates.is_out, specs.declared.event.Event.Event}
 use Rattle.omp_model.{specs.declared.event.Outcome.Outcome, specs.declared.history.What.What, specs.declared.parts.ThreadStage.ThreadStage, specs.Members.is_outermost, specs.Returning.after_created, specs.Returning.at_back, specs.Turn.enabled, specs.Turn.goes_on, specs.Turn.turn, proofs.AlikeWorlds.alike-stored, proofs.AlikeWorlds.quiet-turn, proofs.Alike.QuietWorld, proofs.Later.at-set, proofs.MadeWords.at-summoned}
 use Rattle.omp_model.{proofs.Turning.Turned, specs.declared.event.Halt.TheVariants.Trap, specs.declared.event.Halt.TheVariants.Limit, proofs.MadeRuns.made-after}
@@ -193,13 +193,8 @@ all-none : (pending : List (Option Callback)) → ((k : ℕ) → k < length pend
 all-none [] at = refl
 all-none (first ∷ rest) at = rw (at 0 (omega arith)) (all-none rest (λ k low. at (suc k) (omega (arith, low))))
 
-outside-none : (run : Run) (H : List Entry) → 1 ≤ run.threads → AreOutside run H → none_pending (after run H) ≡ true
-outside-none run H some outside =
-    let places = (made-after run H some).places in
-    all-none (after run H).pending (λ k low. outside k (omega (arith, low, places)))
-
 pub nested-run : (run : Run) (H : List Entry) (cause : Cause) → 1 ≤ run.threads → run.threads ≤ 16 → run.mask ≡ PROFILE_MASK → (text : List ℕ) → Spells text run.program → Legal run H
     → cause_of run H ≡ Some cause → AreOutside run H → IsNested (trace_of run cause H)
 nested-run run H cause some few mask text spells legal caused outside =
     nested run H cause some few mask (none-broken run.program spells.keeps) (spelled_is_formed (words_of text spells.read.has.tree_is.tokens) run.program spells.read.has.tree_is.spelled) legal caused
-    (outside-none run H some outside)
+    (let places = (made-after run H some).places in all-none (after run H).pending (λ k low. outside k (omega (arith, low, places))))

@@ -10,7 +10,7 @@ use Rattle.team_run.specs.Serving.{RunsParts, called_for, finished_by, record_of
 use Rattle.team_run.specs.Standing.{AreSilent, HearsOwn}
 use Rattle.tool_api.specs.Record.{finalized}
 use Rattle.ompt_cli.specs.Names.{Item, Record, StartedWith, StoresNothing, PROFILE_MASK, KeeperFor, AreKept, AreShared, Entry, EventRecord, Run, heard, heard_of, Legal, record_of, records_of, SEQ_LIMIT, mask_of, initialized, Cause}
-use Rattle.ompt_cli.{specs.Reports.HasKept, specs.Reports.HasObserved, specs.declared.observing.Observed.Observed, specs.declared.job.Job.Job, specs.Commands.run_of, proofs.Telling.threads-are}
+use Rattle.ompt_cli.{specs.Reports.HasKept, specs.Reports.HasObserved, specs.declared.observing.ObservedRun.ObservedRun, specs.declared.job.Job.Job, specs.Commands.run_of, proofs.Telling.threads-are}
 
 -- the record of part k once the run has started, and once it has ended
 abbrev pub begun_at : ℕ → ℕ → ℕ → Record → Record
@@ -54,19 +54,14 @@ first-ended answer registered items unheard h one none = rw (one, none) refl
 pub other-ended : (items : List Item) (unheard : Bool) (h : Record) → unheard ≡ false → called_for items unheard h ≡ served h items
 other-ended items unheard h none = rw none refl
 
--- positions from one on are from each smaller one on
-from-less : (least more : ℕ) (events : List EventRecord) → least ≤ more → AreFrom more events → AreFrom least events
-from-less least more [] less from = tt
-from-less least more (event ∷ rest) less from = (omega (arith, less, from.0), from-less least more rest less from.1)
-
--- positions below a limit that rise from one on are from it on, and rise
-from-below : (limit least : ℕ) (events : List EventRecord) → AreBelow limit least events → AreFrom least events
-from-below limit least [] below = tt
-from-below limit least (event ∷ rest) below = (below.0, from-less least (event.seq + 1) rest (omega (arith, below.0)) (from-below limit (event.seq + 1) rest below.2))
+-- positions below a limit that rise from one on are from each smaller one on, and rise
+from-below : (limit least from : ℕ) (events : List EventRecord) → least ≤ from → AreBelow limit from events → AreFrom least events
+from-below limit least from [] less below = tt
+from-below limit least from (event ∷ rest) less below = (omega (arith, less, below.0), from-below limit least (event.seq + 1) rest (omega (arith, less, below.0)) below.2)
 
 rising-below : (limit least : ℕ) (events : List EventRecord) → AreBelow limit least events → AreRising events
 rising-below limit least [] below = tt
-rising-below limit least (event ∷ rest) below = (from-below limit (event.seq + 1) rest below.2, rising-below limit (event.seq + 1) rest below.2)
+rising-below limit least (event ∷ rest) below = (from-below limit (event.seq + 1) (event.seq + 1) rest (omega arith) below.2, rising-below limit (event.seq + 1) rest below.2)
 
 -- no calls so far
 abbrev pub nothing_called : Record
@@ -81,17 +76,6 @@ silent-each (item ∷ rest) all = (all 0 item (omega arith), silent-each rest (�
 abbrev pub shares_of : Run → List Entry → ℕ → List (List EventRecord)
 shares_of run H threads = map (λ (k : ℕ). map record_of (heard_of run H k)) (range_with_len 0 threads)
 
-pub heard-shared : (run : Run) (H : List Entry) (threads : ℕ) → 1 ≤ run.threads → Legal run H → run.threads ≡ threads → HearsOwn run H → AreShared (records_of run H) (shares_of run H threads)
-heard-shared run H threads some legal same own =
-    let as_many : length (shares_of run H threads) ≡ threads = length-map-range_with_len (λ (k : ℕ). map record_of (heard_of run H k)) 0 threads in record {
-      rising = rising-below SEQ_LIMIT 0 (records_of run H) (places-below run H some legal);
-      few = λ k past. records-by_thread (heard run H) k ∙ ap (λ items. map record_of items) (own k (omega (arith, past, as_many, same)));
-      each = λ k d below. get_or-map-range_with_len (λ (k : ℕ). map record_of (heard_of run H k)) 0 threads k k d (omega (arith, below, as_many)) (omega arith) ∙ sym (records-by_thread (heard run H) k);
-    }
-
-fresh-keeper : {A : Type 0} (keep : List EventRecord → A) → KeeperFor keep (keep []) nothing_called
-fresh-keeper keep = record { started = λ k d below. absurd (omega (arith, below)); silent = λ k d below. absurd (omega (arith, below)); events = refl; alone = refl }
-
 -- parts that each keep their thread's share keep the run's records
 pub kept-shares : {A : Type 0} (keep : List EventRecord → A) (run : Run) (H : List Entry) (threads : ℕ) (parts : List A) → length parts ≡ threads
     → ((k : ℕ) (d : A) → k < threads → slice_index_or parts k d ≡ keep (map record_of (heard_of run H k))) → 1 ≤ run.threads → Legal run H → run.threads ≡ threads → HearsOwn run H → AreKept keep (records_of run H) parts
@@ -99,14 +83,18 @@ kept-shares {A} keep run H threads parts as_many each some legal same own =
     let share = λ (k : ℕ). map record_of (heard_of run H k) in
     let many : length (shares_of run H threads) ≡ threads = length-map-range_with_len share 0 threads in record {
       shares = shares_of run H threads;
-      shared = heard-shared run H threads some legal same own;
+      shared = record {
+        rising = rising-below SEQ_LIMIT 0 (records_of run H) (places-below run H some legal);
+        few = λ k past. records-by_thread (heard run H) k ∙ ap (λ items. map record_of items) (own k (omega (arith, past, many, same)));
+        each = λ k d below. get_or-map-range_with_len share 0 threads k k d (omega (arith, below, many)) (omega arith) ∙ sym (records-by_thread (heard run H) k);
+      };
       kept = same_lists parts (map keep (shares_of run H threads)) (omega (arith, as_many, length-map (shares_of run H threads) keep, many))
           (λ k d below. each k d (omega (arith, below, as_many)) ∙ ap keep (sym (get_or-map-range_with_len share 0 threads k k [] (omega (arith, below, as_many)) (omega arith)))
           ∙ sym (get_or-map keep (shares_of run H threads) k [] d (omega (arith, below, as_many, many))));
     }
 
 -- A report of a run of parts that stand for what they keep
-module _ {Table : Type 0} {Behind : Table → Type 0} {A : Type 0} (keep : List EventRecord → A) (stands : A → Record → Type 0) (into : (kept : A) (h : Record) → KeeperFor keep kept h → stands kept h) (out : (kept : A) (h : Record) → stands kept h → KeeperFor keep kept h) (Same : A → A → Type 0) (job : Job) (observed : Observed A Table Behind) (has : HasObserved stands Same job (replicate job.settings.threads (keep [])) observed) where
+module _ {Table : Type 0} {Behind : Table → Type 0} {A : Type 0} (keep : List EventRecord → A) (stands : A → Record → Type 0) (into : (kept : A) (h : Record) → KeeperFor keep kept h → stands kept h) (out : (kept : A) (h : Record) → stands kept h → KeeperFor keep kept h) (Same : A → A → Type 0) (job : Job) (observed : ObservedRun A Table Behind) (has : HasObserved stands Same job (replicate job.settings.threads (keep [])) observed) where
   abbrev threads : ℕ
   threads = job.settings.threads
 
@@ -126,7 +114,7 @@ module _ {Table : Type 0} {Behind : Table → Type 0} {A : Type 0} (keep : List 
   keeps-at : (k : ℕ) (d : A) → k < threads → KeeperFor keep (slice_index_or observed.parts.items k d) (after-at k)
   keeps-at k d below =
       out _ _ (part-at stands observed.report.serial (run_of observed.report) observed.report.cause observed.report.history (replicate threads (keep [])) observed.parts.items has.runs k (omega (arith, below, length-replicate threads (keep []))) d nothing_called
-      (rw (get_or-replicate threads k (keep []) d below) (into (keep []) nothing_called (fresh-keeper keep))))
+      (rw (get_or-replicate threads k (keep []) d below) (into (keep []) nothing_called (record { started = λ k d below. absurd (omega (arith, below)); silent = λ k d below. absurd (omega (arith, below)); events = refl; alone = refl }))))
 
   -- all callbacks were registered, nothing was stored, and each part keeps its share of the run's records
   pub has_kept : HasKept keep job observed

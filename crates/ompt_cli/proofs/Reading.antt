@@ -7,7 +7,7 @@ use Rattle.c_check.specs.Checked.{rule_fault}
 use Rattle.numbered_runs.specs.Alike.{AreAlike}
 use Rattle.ompt_cli.specs.Names.{ConsumesMore, Spot, Token, TokenFault, Reads, beginning, EndsIn, main_of, Tree, HasSyntaxFault, IsTreeOf, TreeView, root_tree, rule_fault_in, CheckFault}
 use Rattle.ompt_cli.specs.Text.{HasTree, IsProgram, IsReadAs, IsRefused, Spells, end_at, end_of, rule_broken, EndsFor, IsLoaded}
-use Rattle.ompt_cli.specs.declared.{end.Refusal.TheVariants.Tokens, end.Refusal.TheVariants.Syntax, end.Refusal.TheVariants.Rule, end.Refusal.TheVariants.TooLong, end.End.TheVariants.Memory, end.End.TheVariants.Refused, end.Refusal.Refusal, end.End.End, job.Loaded.Loaded}
+use Rattle.ompt_cli.specs.declared.{end.Refusal.TheVariants.Tokens, end.Refusal.TheVariants.Syntax, end.Refusal.TheVariants.Rule, end.Refusal.TheVariants.TooLong, end.End.TheVariants.Refused, end.Refusal.Refusal, end.End.End, job.LoadedProgram.LoadedProgram}
 
 module _ (text : List ℕ) where
   -- a text has one list of tokens, with one tree
@@ -121,10 +121,6 @@ ends-refused text why is = record {
   runs = λ program. absurd (program-not_refused text why program is);
 }
 
--- memory failed
-pub ends-memory : (text : Option (List ℕ)) → EndsFor text Memory
-ends-memory text = record { before = tt; refused = λ why same. absurd cc; accepted = λ why has. tt; runs = λ program. tt }
-
 pub longer : (xs given rest : List ℕ) → xs ≡ given ++ rest → length given ≤ length xs
 longer xs given rest same = omega (arith, ap length same, length-append given rest)
 
@@ -140,7 +136,7 @@ read-whole None rest given takes end = tt
 read-whole (Some text) None given takes end = absurd takes
 read-whole (Some text) (Some rest) given takes end = takes ∙ ap (λ more. given ++ more) end ∙ append-nil given
 
-pub loaded-read : (left : Option (List ℕ)) (text : List ℕ) → IfSome left (λ one. one ≡ text) → (loaded : Loaded) → IsLoaded (Some text) loaded → IsLoaded left loaded
+pub loaded-read : (left : Option (List ℕ)) (text : List ℕ) → IfSome left (λ one. one ≡ text) → (loaded : LoadedProgram) → IsLoaded (Some text) loaded → IsLoaded left loaded
 loaded-read None text same loaded is = record { spelled = is.spelled; same = tt }
 loaded-read (Some one) text same loaded is = record { spelled = is.spelled; same = same ∙ is.same }
 
@@ -149,6 +145,6 @@ ends-read None text same end is = record { before = is.before; refused = λ why 
 ends-read (Some one) text same end is = subst (λ text. EndsFor (Some text) end) (sym same) is
 
 -- a text of which a program was loaded has nothing to be refused for
-pub loaded-unrefused : (text : Option (List ℕ)) (loaded : Loaded) → IsLoaded text loaded → (why : Refusal) → IsSomeAnd text (IsRefused why) → ⊥
+pub loaded-unrefused : (text : Option (List ℕ)) (loaded : LoadedProgram) → IsLoaded text loaded → (why : Refusal) → IsSomeAnd text (IsRefused why) → ⊥
 loaded-unrefused None loaded is why has = has
 loaded-unrefused (Some text) loaded is why has = program-not_refused loaded.text.items why (loaded.program, is.spelled) (subst (IsRefused why) is.same has)

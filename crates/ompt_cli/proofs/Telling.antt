@@ -1,5 +1,5 @@
 -- What is known of a report, in the words of `top`.
-use Rattle.std.proofs.Common.{◌∙◌, ◌≢◌, ◌<◌, ◌≤◌, ◌⊎◌, inl, inr, arith, Bool, ◌≡◌, ℕ, List, refl, sym, ap}
+use Rattle.std.proofs.Common.{◌∙◌, ◌≤◌, ◌⊎◌, inl, inr, arith, Bool, ◌≡◌, ℕ, List, refl, sym, ap}
 use Rattle.std.specs.{declared.alloc.Global.Global, declared.dyn_box.DynBox.DynBox}
 use Rattle.ompt_words.specs.declared.settings.RunOutput.TheVariants as output
 use Rattle.ompt_words.specs.declared.settings.Request.TheVariants as request
@@ -45,19 +45,14 @@ served-after stands_for Same command asked is (inr filed) serial run cause histo
 pub same-settings : (found : Request) (settings other : Settings) → found ≡ request.Run settings → found ≡ request.Run other → settings ≡ other
 same-settings found settings other is same = cc
 
--- a count that rose shows a write that failed
-lost-write : (told : End) (before now : ℕ) → (told ≢ end.WriteFault → now ≡ before) → before < now → told ≡ end.WriteFault
-lost-write end.WriteFault before now steady rose = refl
-lost-write other before now steady rose = absurd (omega (arith, steady (λ is. cc), rose))
-
--- or a read
-lost-read : (told : End) (before now : ℕ) → (told ≢ end.ReadFault → now ≡ before) → before < now → told ≡ end.ReadFault
-lost-read end.ReadFault before now steady rose = refl
-lost-read other before now steady rose = absurd (omega (arith, steady (λ is. cc), rose))
-
+-- a count that rose shows a read or a write that failed
 pub shows-faults : (told : End) (source source_now out out_now : ℕ) → CountsFaults told end.ReadFault source source_now → CountsFaults told end.WriteFault out out_now → ShowsFaults told source source_now out out_now
-shows-faults told source source_now out out_now reads writes =
-    record { read = reads.rose; write = writes.rose; unread = lost-read told source source_now reads.steady; lost = lost-write told out out_now writes.steady }
+shows-faults end.ReadFault source source_now out out_now reads writes =
+    record { read = reads.rose; write = writes.rose; unread = λ rose. refl; lost = λ rose. absurd (omega (arith, writes.steady (λ is. cc), rose)) }
+shows-faults end.WriteFault source source_now out out_now reads writes =
+    record { read = reads.rose; write = writes.rose; unread = λ rose. absurd (omega (arith, reads.steady (λ is. cc), rose)); lost = λ rose. refl }
+shows-faults other source source_now out out_now reads writes =
+    record { read = reads.rose; write = writes.rose; unread = λ rose. absurd (omega (arith, reads.steady (λ is. cc), rose)); lost = λ rose. absurd (omega (arith, writes.steady (λ is. cc), rose)) }
 
 -- the end of a command that comes before its run, or that a program may have, is one of those for words that ask for a run
 pub before-run : (told : End) → IsBeforeRun told → EndsRun told

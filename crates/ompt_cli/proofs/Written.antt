@@ -10,12 +10,12 @@ use Rattle.trace_format.{specs.Inputs.IsRefusedInput, specs.Refusing.IsTruncated
 use Rattle.trace_check.specs.Nested.{Broken as BreaksRule}
 use Rattle.history_file.{specs.declared.file.TheConstants.HISTORY_LIMIT, specs.Verdicts.heard_call, proofs.Lengths.written_short, proofs.OfRuns.files_of_runs}
 use Rattle.numbered_runs.proofs.Histories.{same_cause, same_legal}
-use Rattle.run_trace.{proofs.Heard.few-records, specs.TraceOf.detail_of, specs.TraceOf.status_of}
-use Rattle.ompt_cli.specs.Names.{AppendsFront, ConsumesMore, TreeView, Item, line_text, lines_of, record_of, Refusal, Trace, Writes, Breach, HasChecked, Nested, ReadCommand, Check, Migrate, Rerun, Show, Tasks, HasReadNested, IsForestText, HistoryFile, IsCertificate, run_of_file, WritesHistory, Cause, Entry, Legal, records_of, Run, EventRecord, FitsCause, AreShared, history_fields, history_spelling, FitsFile, Command}
+use Rattle.run_trace.{specs.TraceOf.detail_of, specs.TraceOf.status_of}
+use Rattle.ompt_cli.specs.Names.{AppendsFront, ConsumesMore, TreeView, Item, line_text, lines_of, record_of, Refusal, Trace, Writes, Breach, HasChecked, Nested, ReadCommand, Check, Migrate, Rerun, Show, Tasks, HasReadNested, IsForestText, HistoryFile, IsCertificate, run_of_file, WritesHistory, Cause, FitsCause, history_fields, history_spelling, FitsFile, Command}
 use Rattle.ompt_cli.specs.Names.{Running, Settings}
 use Rattle.ompt_cli.specs.declared.end.End.TheVariants.{Broken, Memory, Read, TraceRefused, WriteFault}
 use Rattle.ompt_cli.specs.Histories.{HasRerun, IsCertified, heard_text, lines_of_calls, file_of_report}
-use Rattle.ompt_cli.specs.Commands.{HasWritten, EndsAs, IsSharedFew, run_of, run_text, text_in, unless_memory, written_by}
+use Rattle.ompt_cli.specs.Commands.{HasWritten, EndsAs, run_of, run_text, text_in, unless_memory, written_by}
 use Rattle.ompt_cli.{specs.Traces.HasRead, specs.Traces.HasTasks, specs.Traces.IsNested, specs.declared.end.End.End, specs.Text.Spells, proofs.Reading.longer, proofs.Reading.programs-alike, specs.declared.report.Report.Report, specs.declared.job.Job.Job, specs.Reports.HasCertificate, specs.Reports.Observes, proofs.Telling.few-threads, proofs.Telling.some-threads}
 
 -- something is written of each run that found memory
@@ -23,28 +23,12 @@ pub unless-found : (of : Cause) (lines : List ℕ) → of ≢ causes.Memory → 
 unless-found causes.Memory lines found = absurd (found refl)
 unless-found other lines found = refl
 
-memory-end : (told : End) → EndsAs causes.Memory told → told ≡ end.Memory
-memory-end end.Memory ends = refl
-memory-end end.WriteFault ends = absurd (ends refl)
-memory-end (end.Ended why) ends = absurd (ends.1 refl)
-memory-end other ends = absurd ends
-
 -- an end that isn't want of memory tells of a run that found memory
 pub ends-found : (of : Cause) (told : End) → EndsAs of told → told ≢ end.Memory → of ≢ causes.Memory
-ends-found of told ends other none = other (memory-end told (subst (λ (found : Cause). EndsAs found told) none ends))
-
--- the records of a run are few enough
-pub shared-few : (run : Run) (H : List Entry) (parts : List (List EventRecord)) → 1 ≤ run.threads → Legal run H → AreShared (records_of run H) parts → IsSharedFew parts
-shared-few run H parts some legal shared = (records_of run H, shared, few-records run H some legal)
-
--- a cause that has an end in a file isn't want of memory
-pub found-by : (cause : Cause) (result : Option (ℕ × ℕ)) (status detail : ℕ) → result ≡ Some (status, detail) → (cause ≡ causes.Memory → result ≡ None) → cause ≢ causes.Memory
-found-by cause result status detail is none memory = let other = sym is ∙ none memory in cc
-
--- the end of a file that was written, or of which a write failed
-pub ended-as : (cause : Cause) (told : End) → cause ≢ causes.Memory → (told ≡ end.Ended cause) ⊎ (told ≡ end.WriteFault) → EndsAs cause told
-ended-as cause told found (inl is) = subst (EndsAs cause) (sym is) (refl, found)
-ended-as cause told found (inr is) = subst (EndsAs cause) (sym is) found
+ends-found of (end.Ended why) ends other = ends.1
+ends-found of end.WriteFault ends other = ends
+ends-found of end.Memory ends other = absurd (other refl)
+ends-found of rest ends other = absurd ends
 
 module _ {Table : Type 0} {Behind : Table → Type 0} (report : Report Table Behind) where
   -- the file that was made is that of the report

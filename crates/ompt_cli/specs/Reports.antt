@@ -6,7 +6,7 @@ use Rattle.ompt_words.specs.declared.settings.RunOutput.TheVariants as output
 use Rattle.team_run.specs.{declared.ran.Ran.Ran, Program.IsRan, Program.RunsTo, Program.run_of as ran_of, Serving.AreSame, Serving.RunsParts, Standing.HearsSilent}
 use Rattle.ompt_cli.specs.Names.{PROFILE_MASK, AreAlways, after, records_of, EventRecord, AreKept, Record, Recording, Running, trace_of, IsTrace, IsCertificate, IsHistoryFile}
 use Rattle.ompt_cli.specs.Commands.{CountsFaults, EndsAs, HasGuests, HasWritten, program_in, run_of, run_text, settings_in, text_in}
-use Rattle.ompt_cli.specs.{declared.end.End.End, declared.end.End.TheVariants.Memory, declared.end.End.TheVariants.WriteFault, declared.job.Job.Job, declared.observing.Observed.Observed}
+use Rattle.ompt_cli.specs.{declared.end.End.End, declared.end.End.TheVariants.Memory, declared.end.End.TheVariants.WriteFault, declared.job.Job.Job, declared.observing.ObservedRun.ObservedRun}
 use Rattle.ompt_cli.specs.{declared.report.Report.Report, Guests.GuestsAfter, Histories.file_of_report, Commands.AreOutside}
 
 -- a command that ended so has written what a program printed, and more may be written behind it: it ran guests and was asked for no history,
@@ -57,7 +57,7 @@ RunsJob stands_for Same job parts ran =
 -- the parts of a run of this job: they were called for what their threads heard, and are those that were given. The run printed this
 -- text
 pub record HasObserved {P Table : Type 0} {Behind : Table → Type 0} (stands_for : P → Record → Type 0) (Same : P → P → Type 0)
-    (job : Job) (parts : List P) (observed : Observed P Table Behind) : Type 0 where
+    (job : Job) (parts : List P) (observed : ObservedRun P Table Behind) : Type 0 where
   pub observes : Observes job observed.report
   pub runs : RunsParts stands_for observed.report.serial (run_of observed.report) observed.report.cause observed.report.history
       parts observed.parts.items
@@ -67,7 +67,7 @@ pub record HasObserved {P Table : Type 0} {Behind : Table → Type 0} (stands_fo
 -- parts that keep this of what they are told were run with this job: all callbacks of the profile were registered, nothing was stored, and
 -- each kept its share of the records of the run, which printed this text
 pub record HasKept {Table A : Type 0} {Behind : Table → Type 0} (keep : List EventRecord → A) (job : Job)
-    (observed : Observed A Table Behind) : Type 0 where
+    (observed : ObservedRun A Table Behind) : Type 0 where
   pub observes : Observes job observed.report
   pub stays : StaysSilent observed.report
   pub kept : AreKept keep (records_of (run_of observed.report) observed.report.history) observed.parts.items

@@ -5,7 +5,7 @@ use Rattle.ompt_words.specs.declared.settings.Command.TheVariants.{Generate}
 use Rattle.ompt_cli.specs.Names.{Spot, Token, beginning, Reads, EndsIn, main_of, Tree, TreeView, root_tree, HasSyntaxFault, IsTreeOf, CheckFault, rule_fault_in, generated, Command}
 use Rattle.ompt_cli.specs.{declared.end.Refusal.Refusal, declared.end.Refusal.TheVariants.Tokens, declared.end.Refusal.TheVariants.Syntax, declared.end.Refusal.TheVariants.Rule}
 use Rattle.ompt_cli.specs.{declared.end.Refusal.TheVariants.TooLong, Commands.IsBeforeRun, Commands.MayRefuse, Commands.MayRun, declared.end.End.End, declared.end.End.TheVariants.Refused}
-use Rattle.ompt_cli.specs.{declared.job.Loaded.Loaded, declared.report.ProgramTree.ProgramTree}
+use Rattle.ompt_cli.specs.{declared.job.LoadedProgram.LoadedProgram, declared.report.ProgramTree.ProgramTree}
 
 -- the text that a command runs: what the source has left, and of `gen` the generated program
 abbrev pub text_for : Command → Option (List ℕ) → Option (List ℕ)
@@ -56,12 +56,12 @@ abbrev pub IsProgram : List ℕ → Type 0
 IsProgram text = (program : TreeView) × Spells text program
 
 -- contracts see the program and the text of what was loaded
-pub record IsOf (loaded : Loaded) (program : ProgramTree) : Type 0 where
+pub record IsOf (loaded : LoadedProgram) (program : ProgramTree) : Type 0 where
   pub tree : program.tree.value ≡ loaded.program
   pub text : program.text.value ≡ loaded.text
 
 -- this was loaded of the text: a program that it spells
-pub record IsLoaded (text : Option (List ℕ)) (loaded : Loaded) : Type 0 where
+pub record IsLoaded (text : Option (List ℕ)) (loaded : LoadedProgram) : Type 0 where
   pub spelled : Spells loaded.text.items loaded.program
   pub same : IfSome text (λ text. text ≡ loaded.text.items)
 

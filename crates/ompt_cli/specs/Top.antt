@@ -99,8 +99,14 @@ pub record StaysUntouched {S O : Type 0} (words : List (List ℕ)) (end : End) (
   pub unread_input : (command : ReadCommand) → AskToRead words command → IsNone read → (source_now ≡ source) × (out_now ≡ out)
   pub generates : (settings : Settings) → AskFor words settings → (blocks : ℕ) → settings.command ≡ Generating blocks → source_now ≡ source
 
--- All that a command says but the line of its end and the guests, as `top` has it, clause by clause. Over what the source has left, what
--- the output holds, and their counts of faults.
+-- All that a command says but the line of its end and the guests. The words decide which of a run, a text that is shown and a trace or a
+-- history that is read is there (`words`). What ran is the program that the words and the source say, in one legal run that ends in the
+-- cause that is reported (`ran`). Where a trace or a history file was read, the end says what was read and written of it (`read`). A text
+-- that was to run is refused exactly for a reason that it has (`text`). Where neither is read, what is written is the text that was asked
+-- for, or what the command writes of its run (`written`). A recording is a trace, the trace of each run of the shipped parts is nested,
+-- and a history that is written is a certificate (`recorded`). Each fault of a read or a write was counted, and shows in the end
+-- (`faults`). Nothing is read that the words don't ask for, and nothing is touched where they are refused (`untouched`). Over what the
+-- source has left, what the output holds, and their counts of faults.
 pub record CarriesOut {S O Table : Type 0} {Behind : Table → Type 0} (left : S → Option (List ℕ)) (reads_failed : S → ℕ)
     (held : O → Option (List ℕ)) (writes_failed : O → ℕ) (typed : List (List ℕ)) (end : End) (shown : Option (String Global))
     (read_by : Option ReadCommand) (ran_as : Option (Report Table Behind)) (source source_now : S) (out out_now : O) : Type 0 where

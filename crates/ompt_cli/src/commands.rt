@@ -7,7 +7,7 @@ ghost use Rattle.ompt_cli.specs.{Guests.GuestsAfter, Reports.Reports, Top.Carrie
 use crate::end::End;
 use crate::guests::Guests;
 use crate::job::Job;
-use crate::report::{Came, Top, without_run};
+use crate::report::{Came, Outcome, without_run};
 use crate::reporting::{record, report_kept};
 use crate::run::{run_history, run_printed, run_profile};
 use crate::runner::Runner;
@@ -19,14 +19,14 @@ use tool_report::{Profile, Recorder, Timeline};
 
 /// Reads the program, or makes it for `gen`, runs it with these settings, and writes what the command writes.
 pub(crate) fn run_settings<X: Runner, S: Source, O: Sink>(
-    runner: &X,
+    by: &X,
     alloc: Global,
     settings: Settings,
     source: &mut S,
     out: &mut O,
     guests: Guests,
-) -> Top
-    requires kind { X.may_run runner.now settings.serial }
+) -> Outcome
+    requires kind { X.may_run by.now settings.serial }
     requires range { AreInRange settings }
     ensures carried { (words : List (List ℕ)) → AreTakenAs words (request.Run settings) →
         CarriesOut S.left S.faults O.held O.faults words result.end result.shown result.read result.ran source.old
@@ -43,9 +43,8 @@ pub(crate) fn run_settings<X: Runner, S: Source, O: Sink>(
         settings,
         alloc,
     };
-    match run_command(runner, job, guests, out) {
-        Ok(ended) => Top {
-            status: 0,
+    match run_command(by, job, guests, out) {
+        Ok(ended) => Outcome {
             end: ended.end,
             ran: Some(ended.report),
             shown: None,

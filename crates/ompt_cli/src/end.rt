@@ -1,7 +1,6 @@
 //! How a command ended: its status and its line on standard error.
 
-ghost use Rattle.std.specs.{Fmt.decimal, Fmt.signed_decimal, Prelude.◌≡◌, Prelude.◌≤◌, Prelude.◌∷◌, Prelude.◌++◌, Prelude.[]};
-ghost use Rattle.std.specs.{Prelude.codes, Prelude.length, Process.exit_status};
+ghost use Rattle.std.specs.{Prelude.◌≡◌, Prelude.◌≤◌, Prelude.◌∷◌, Prelude.◌++◌, Prelude.[], Prelude.length, Process.exit_status};
 ghost use Rattle.run_trace.specs.TraceOf.{status_of as status_of_cause};
 ghost use Rattle.ompt_cli.specs.Ends.{line_at, line_of_cause, line_of_end, refusal_at, refusal_text, status_of};
 
@@ -10,7 +9,7 @@ use c_check::CheckFault;
 use c_syntax::SyntaxFault;
 use c_tokens::{NOWHERE, Spot, TokenFault};
 use history_file::HistoryReason;
-use itoa::Buffer;
+use itoa::{Buffer, Integer};
 use omp_model::Cause;
 use run_edges::{Sink, write_all};
 use std::process::ExitCode;
@@ -149,8 +148,8 @@ fn line_of_cause(cause: Cause) -> ArrayString<160>
 {
     match cause {
         Cause::Done => line_of(""),
-        Cause::Returned(value) => line_of_returned(value),
-        Cause::Trapped(number) => line_with("trapped ", u32::from(number)),
+        Cause::Returned(value) => line_with("returned ", value),
+        Cause::Trapped(number) => line_with("trapped ", number),
         Cause::Deadlock => line_of("deadlock\n"),
         Cause::Limit(1) => line_of("limit steps\n"),
         Cause::Limit(2) => line_of("limit turns\n"),
@@ -161,17 +160,6 @@ fn line_of_cause(cause: Cause) -> ArrayString<160>
         Cause::Limit(_) => line_of("limit text\n"),
         Cause::Memory => line_of("memory\n"),
     }
-}
-
-/// The line that tells what main returned.
-fn line_of_returned(value: i32) -> ArrayString<160>
-    ensures { result.bytes ≡ codes "returned " ++ signed_decimal value ++ 10 ∷ [] }
-{
-    let mut digits = Buffer::new();
-    let mut line = line_of("returned ");
-    line.push_str(digits.format(value));
-    line.push_str("\n");
-    line
 }
 
 /// The line that tells a refusal with this number at this place.
@@ -189,12 +177,13 @@ fn line_of_refusal(number: u32, spot: Spot) -> ArrayString<160>
 }
 
 /// A line of this text and a number.
-fn line_with(text: &str, number: u32) -> ArrayString<160>
+fn line_with<I: Integer>(text: &str, number: I) -> ArrayString<160>
     requires { length text.now ≤ 40 }
-    ensures { result.bytes ≡ (text.now ++ decimal number) ++ 10 ∷ [] }
+    ensures { result.bytes ≡ (text.now ++ I.text number) ++ 10 ∷ [] }
 {
+    let mut digits = Buffer::new();
     let mut line = line_of(text);
-    push_number(&mut line, number);
+    line.push_str(digits.format(number));
     line.push_str("\n");
     line
 }

@@ -11,7 +11,7 @@ use tool_api::{GuestTool, Handed, Memory, Quiet, Registrar, Response, ToolPart};
 pub(crate) type Guests = Vec<Box<dyn GuestTool>>;
 
 /// The part of a thread: that of a guest, or none.
-pub(crate) type Held = Handed<GuestPart>;
+pub(crate) type Part = Handed<GuestPart>;
 
 /// A part that hands each call on to a guest, and stands for what the guest stands for. It is a type of this crate, since
 /// what a function of another crate does with a box isn't seen here: the box that comes back could be any other.
@@ -46,7 +46,7 @@ impl ToolPart for GuestPart {
 /// The parts of the threads, and the guests that are left, the next one last. There is room for all the guests to wait again.
 #[derive(Drop)]
 pub(crate) struct Handing {
-    pub parts: Vec<Held>,
+    pub parts: Vec<Part>,
     pub waiting: Guests,
 }
 
@@ -68,7 +68,7 @@ pub(crate) fn hand_out_all(alloc: Global, threads: u8, guests: Guests) -> Result
 }
 
 /// The guests that these parts hold, and behind them those that are left.
-pub(crate) fn take_back_all(parts: Vec<Held>, waiting: Guests) -> Guests
+pub(crate) fn take_back_all(parts: Vec<Part>, waiting: Guests) -> Guests
     requires { vec_len waiting + length parts.items ≤ vec_capacity waiting }
     ensures { result.items ≡ guests_of (λ guest. guest.0) parts.items ++ reverse waiting.items }
 {
@@ -81,7 +81,7 @@ pub(crate) fn take_back_all(parts: Vec<Held>, waiting: Guests) -> Guests
 }
 
 /// The part of the next thread: the guest that waits next, which is the last one of the list, or none where no more wait.
-fn next_part(waiting: &mut Guests) -> Held
+fn next_part(waiting: &mut Guests) -> Part
     ensures { HandOut (λ guest. guest.0) (reverse waiting.old.items) (result ∷ []) (reverse waiting.new.items) }
 {
     match waiting.pop() {
@@ -91,7 +91,7 @@ fn next_part(waiting: &mut Guests) -> Held
 }
 
 /// The guest that the part holds, if it holds one, waits as the next one.
-fn wait_again(part: Held, waiting: &mut Guests)
+fn wait_again(part: Part, waiting: &mut Guests)
     requires { vec_len waiting.old + 1 ≤ vec_capacity waiting.old }
     ensures waits { reverse waiting.new.items ≡ guests_of (λ guest. guest.0) (part ∷ []) ++ reverse waiting.old.items }
     ensures len { vec_len waiting.new ≤ vec_len waiting.old + 1 }

@@ -8,7 +8,7 @@ use std::alloc::Global;
 
 /// A program, with the text that spells it.
 #[derive(Drop)]
-pub(crate) struct Loaded {
+pub(crate) struct LoadedProgram {
     /// The program.
     pub program: Program,
     /// Its text, at most 65,536 bytes.
@@ -19,7 +19,7 @@ pub(crate) struct Loaded {
 #[derive(Drop)]
 pub(crate) struct Job {
     /// The program, and its text.
-    pub loaded: Loaded,
+    pub loaded: LoadedProgram,
     /// How it is to run.
     pub settings: Settings,
     /// Where it takes its memory.

@@ -2,16 +2,15 @@
 
 ghost use Rattle.std.specs.Prelude.{ℕ, ◌≡◌, ◌↔◌, IfOk, List, [], length, replicate, true};
 ghost use Rattle.std.specs.Thread.{IsSync};
-ghost use Rattle.ompt_cli.specs.Names.{Record, EventRecord, generated, summary_of, AreKept, AreShared, KeeperFor};
+ghost use Rattle.ompt_cli.specs.Names.{Record, EventRecord, AreKept, KeeperFor};
 ghost use Rattle.ompt_words.specs.declared.settings.Command.{Command as SeenCommand};
 ghost use Rattle.ompt_cli.specs.{Commands.columns_in, Reports.RunsJob};
 
 use crate::job::Job;
 use crate::observing::{Gave, run_alone, run_by_threads};
-use crate::writing::Made;
+use crate::writing::Lines;
 use ompt_words::Command;
 use std::alloc::{AllocError, Global};
-use std::mem;
 use std::sync::Wait;
 use std::thread::Threads;
 use tool_api::ToolPart;
@@ -33,22 +32,22 @@ pub(crate) trait Keeper: ToolPart {
         ensures { result ≡ keep [] };
 
     /// What the command makes of what these parts keep and of what the program printed.
-    fn text(alloc: Global, command: Command, parts: &[Self], printed: &[u8]) -> Made
+    fn text(alloc: Global, command: Command, parts: &[Self], printed: &[u8]) -> Lines
         ensures { IfOk result (λ text. (events : List EventRecord) → AreKept keep events parts.now →
             text.items ≡ text_of command events printed.now) };
 
-    /// Runs the job, which is serial, with the parts of this list, which it takes out of it. Parts may be sent to
-    /// threads, and nothing says of a type parameter of a method that it may be sent. So each kind makes its own runs.
-    fn run_alone(job: Job, parts: &mut Vec<Self>) -> Gave<Self>
+    /// Runs the job, which is serial, with these parts. Parts may be sent to threads, and nothing says of a type
+    /// parameter of a method that it may be sent. So each kind makes its own runs.
+    fn run_alone(job: Job, parts: Vec<Self>) -> Gave<Self>
         requires serial { job.settings.serial ≡ true }
-        requires parts { length parts.old.items ≡ job.settings.threads }
-        ensures { IfOk result (RunsJob Self.stands_for Self.same job parts.old.items) };
+        requires parts { length parts.items ≡ job.settings.threads }
+        ensures { IfOk result (RunsJob Self.stands_for Self.same job parts.items) };
 
     /// Does what [`Keeper::run_alone`] does for each job, by threads where it isn't serial.
-    fn on_threads<R: Threads + Wait + Sync>(rt: &R, job: Job, parts: &mut Vec<Self>) -> Gave<Self>
+    fn on_threads<R: Threads + Wait + Sync>(rt: &R, job: Job, parts: Vec<Self>) -> Gave<Self>
         requires sync { IsSync R.row }
-        requires parts { length parts.old.items ≡ job.settings.threads }
-        ensures { IfOk result (RunsJob Self.stands_for Self.same job parts.old.items) };
+        requires parts { length parts.items ≡ job.settings.threads }
+        ensures { IfOk result (RunsJob Self.stands_for Self.same job parts.items) };
 
     ghost stands: { (kept : Self) (h : Record) → KeeperFor keep kept h ↔ Self.stands_for kept h };
 }
@@ -64,21 +63,23 @@ impl Keeper for Recorder {
         Recorder::new(alloc)
     }
 
-    fn text(alloc: Global, command: Command, parts: &[Recorder], printed: &[u8]) -> Made {
+    fn text(alloc: Global, command: Command, parts: &[Recorder], printed: &[u8]) -> Lines {
         match command {
-            Command::Generate(blocks) => summary(alloc, blocks, parts, printed),
+            Command::Generate(blocks) => {
+                let program = generated_text(alloc, blocks)?;
+                let events = merge(alloc, parts)?;
+                summary_text(alloc, &program, &events, printed)
+            }
             _ => lines_text(alloc, parts),
         }
     }
 
-    fn run_alone(job: Job, parts: &mut Vec<Self>) -> Gave<Self> {
-        let list = mem::replace(parts, Vec::new(job.alloc));
-        run_alone(job, list)
+    fn run_alone(job: Job, parts: Vec<Self>) -> Gave<Self> {
+        run_alone(job, parts)
     }
 
-    fn on_threads<R: Threads + Wait + Sync>(rt: &R, job: Job, parts: &mut Vec<Self>) -> Gave<Self> {
-        let list = mem::replace(parts, Vec::new(job.alloc));
-        run_by_threads(rt, job, list)
+    fn on_threads<R: Threads + Wait + Sync>(rt: &R, job: Job, parts: Vec<Self>) -> Gave<Self> {
+        run_by_threads(rt, job, parts)
     }
 
     ghost stands = { λ kept h. (λ for. for, λ for. for) };
@@ -96,18 +97,16 @@ impl Keeper for Profile {
         Profile::new()
     }
 
-    fn text(alloc: Global, _command: Command, parts: &[Profile], _printed: &[u8]) -> Made {
+    fn text(alloc: Global, _command: Command, parts: &[Profile], _printed: &[u8]) -> Lines {
         profile_text(alloc, parts)
     }
 
-    fn run_alone(job: Job, parts: &mut Vec<Self>) -> Gave<Self> {
-        let list = mem::replace(parts, Vec::new(job.alloc));
-        run_alone(job, list)
+    fn run_alone(job: Job, parts: Vec<Self>) -> Gave<Self> {
+        run_alone(job, parts)
     }
 
-    fn on_threads<R: Threads + Wait + Sync>(rt: &R, job: Job, parts: &mut Vec<Self>) -> Gave<Self> {
-        let list = mem::replace(parts, Vec::new(job.alloc));
-        run_by_threads(rt, job, list)
+    fn on_threads<R: Threads + Wait + Sync>(rt: &R, job: Job, parts: Vec<Self>) -> Gave<Self> {
+        run_by_threads(rt, job, parts)
     }
 
     ghost stands = { λ kept h. (λ for. for, λ for. for) };
@@ -126,21 +125,19 @@ impl Keeper for Timeline {
         Timeline::new(alloc)
     }
 
-    fn text(alloc: Global, command: Command, parts: &[Timeline], _printed: &[u8]) -> Made {
+    fn text(alloc: Global, command: Command, parts: &[Timeline], _printed: &[u8]) -> Lines {
         match command {
             Command::Timeline(columns) => timeline_text(alloc, parts, columns),
             _ => timeline_text(alloc, parts, 0),
         }
     }
 
-    fn run_alone(job: Job, parts: &mut Vec<Self>) -> Gave<Self> {
-        let list = mem::replace(parts, Vec::new(job.alloc));
-        run_alone(job, list)
+    fn run_alone(job: Job, parts: Vec<Self>) -> Gave<Self> {
+        run_alone(job, parts)
     }
 
-    fn on_threads<R: Threads + Wait + Sync>(rt: &R, job: Job, parts: &mut Vec<Self>) -> Gave<Self> {
-        let list = mem::replace(parts, Vec::new(job.alloc));
-        run_by_threads(rt, job, list)
+    fn on_threads<R: Threads + Wait + Sync>(rt: &R, job: Job, parts: Vec<Self>) -> Gave<Self> {
+        run_by_threads(rt, job, parts)
     }
 
     ghost stands = { λ kept h. (λ for. for, λ for. for) };
@@ -155,14 +152,4 @@ pub(crate) fn keepers<P: Keeper>(alloc: Global, threads: u8) -> Result<Vec<P>, A
         parts.push(P::fresh(alloc))?;
     }
     Ok(parts)
-}
-
-/// The summary of a run of the program with so many blocks: these recorders were told of the run, and it printed this text.
-fn summary(alloc: Global, blocks: u16, parts: &[Recorder], printed: &[u8]) -> Made
-    ensures { IfOk result (λ text. (events : List EventRecord) → AreShared events parts.now →
-        text.items ≡ summary_of (generated blocks) events printed.now) }
-{
-    let program = generated_text(alloc, blocks)?;
-    let events = merge(alloc, parts)?;
-    summary_text(alloc, &program, &events, printed)
 }

@@ -17,14 +17,14 @@ use tool_api::ToolPart;
 
 /// What a run gave: its report, its parts by thread, and the bytes that the program printed.
 #[derive(Drop)]
-pub(crate) struct Observed<P> {
+pub(crate) struct ObservedRun<P> {
     pub report: Report,
     pub parts: Vec<P>,
     pub text: Vec<u8>,
 }
 
 /// What a run gave, unless there was no memory for it. A run that found none for its first entry is none.
-pub(crate) type Seen<P> = Result<Observed<P>, AllocError>;
+pub(crate) type Observation<P> = Result<ObservedRun<P>, AllocError>;
 
 /// The same before there is a report of it.
 pub(crate) type Gave<P> = Result<Ran<P>, AllocError>;
@@ -63,45 +63,20 @@ pub(crate) fn run_by_threads<R: Threads + Wait + Sync, P: ToolPart>(
     run_threads(rt, alloc, loaded.program, limits, parts)
 }
 
-/// Does what [`run_alone`] does. The report has no guests.
-pub(crate) fn observe_alone<P: ToolPart>(job: Job, parts: Vec<P>) -> Seen<P>
-    requires serial { job.settings.serial ≡ true }
-    requires parts { length parts.items ≡ job.settings.threads }
-    ensures { IfOk result (HasObserved P.stands_for P.same job parts.items) }
-{
-    let (alloc, settings, program) = (job.alloc, job.settings, ProgramTree::of(&job.loaded));
-    let ran = run_alone(job, parts)?;
-    Ok(with_report(settings, program, ran, Vec::new(alloc)))
-}
-
-/// Does what [`run_by_threads`] does. The report has no guests.
-pub(crate) fn observe<R: Threads + Wait + Sync, P: ToolPart>(
-    rt: &R,
-    job: Job,
-    parts: Vec<P>,
-) -> Seen<P>
-    requires { length parts.items ≡ job.settings.threads }
-    ensures { IfOk result (HasObserved P.stands_for P.same job parts.items) }
-{
-    let (alloc, settings, program) = (job.alloc, job.settings, ProgramTree::of(&job.loaded));
-    let ran = run_by_threads(rt, job, parts)?;
-    Ok(with_report(settings, program, ran, Vec::new(alloc)))
-}
-
 /// What a run of this program with these settings gave, with these guests in its report.
 pub(crate) fn with_report<P: ToolPart>(
     settings: Settings,
     program: ProgramTree,
     ran: Ran<P>,
     guests: Guests,
-) -> Observed<P>
+) -> ObservedRun<P>
     ensures observed { (job : Job) (parts : List P) → settings ≡ job.settings → IsOf job.loaded program →
         IsRan P.stands_for P.same settings.serial
         (run_of program.tree.value settings.threads settings.steps ran) parts ran →
         HasObserved P.stands_for P.same job parts result }
     ensures guests { result.report.guests ≡ guests }
 {
-    Observed {
+    ObservedRun {
         report: Report {
             command: settings.command,
             cause: ran.cause,

@@ -7,7 +7,7 @@ ghost use Rattle.ompt_cli.specs.{Commands.CountsFaults, Commands.IsReading, Hist
 
 use crate::end::End;
 use crate::rerunning::rerun_history;
-use crate::writing::{Made, write_read};
+use crate::writing::{Lines, write_read};
 use ompt_words::ReadCommand;
 use run_edges::{Sink, Source, write_all};
 use std::alloc::Global;
@@ -94,7 +94,7 @@ fn tell_tasks<S: Source, O: Sink>(alloc: Global, source: &mut S, out: &mut O) ->
 }
 
 /// What is written of the tasks of a nested trace.
-fn tasks_text(alloc: Global, trace: &Trace) -> Made
+fn tasks_text(alloc: Global, trace: &Trace) -> Lines
     requires valid { IsTrace trace.now }
     requires nested { IsNested trace.now }
     ensures { IfOk result (λ text. IsForestText trace.now.events text.items) }

@@ -4,7 +4,7 @@ ghost use Rattle.std.specs.Prelude.{◌≡◌, ◌↔◌, None, IsTrue};
 ghost use Rattle.ompt_cli.specs.{Reports.HasPrinted, Text.IsOf};
 
 use crate::end::End;
-use crate::job::Loaded;
+use crate::job::LoadedProgram;
 use c_check::Program;
 use omp_model::{Cause, History};
 use ompt_words::{Command, ReadCommand, RunOutput, Settings};
@@ -24,7 +24,7 @@ pub struct ProgramTree {
 
 impl ProgramTree {
     /// The tree of the program, with its text.
-    pub(crate) fn of(loaded: &Loaded) -> ProgramTree
+    pub(crate) fn of(loaded: &LoadedProgram) -> ProgramTree
         ensures { IsOf loaded.now result }
     {
         ProgramTree {
@@ -111,12 +111,20 @@ pub(crate) struct AfterRun {
 /// How a command ended that has run, unless there was no memory for its run.
 pub(crate) type Came = Result<AfterRun, AllocError>;
 
-/// A command that ended before its run, with its line still to be told.
-pub(crate) fn without_run(end: End) -> Top
-    ensures { result ≡ record { status = 0; end = end; ran = None; shown = None; read = None } }
+/// What a command came to, with its line still to be told: a [`Top`] without a status.
+#[derive(Drop)]
+pub(crate) struct Outcome {
+    pub end: End,
+    pub ran: Option<Report>,
+    pub shown: Option<String>,
+    pub read: Option<ReadCommand>,
+}
+
+/// What a command came to that ended before its run.
+pub(crate) fn without_run(end: End) -> Outcome
+    ensures { result ≡ record { end = end; ran = None; shown = None; read = None } }
 {
-    Top {
-        status: 0,
+    Outcome {
         end,
         ran: None,
         shown: None,

@@ -11,7 +11,7 @@ use crate::end::End;
 use crate::guests::Guests;
 use crate::job::Job;
 use crate::keepers::{Keeper, keepers};
-use crate::observing::{Observed, Seen, with_report};
+use crate::observing::{Observation, ObservedRun, with_report};
 use crate::report::{AfterRun, Came, ProgramTree};
 use crate::runner::Runner;
 use crate::writing::write_made;
@@ -48,14 +48,14 @@ pub(crate) fn report_kept<X: Runner, P: Keeper, O: Sink>(
 }
 
 /// Runs the job with a part for each thread that keeps what it is told. The guests of the report are these.
-pub(crate) fn run_kept<X: Runner, P: Keeper>(runner: &X, job: Job, guests: Guests) -> Seen<P>
-    requires { X.may_run runner.now job.settings.serial }
+pub(crate) fn run_kept<X: Runner, P: Keeper>(by: &X, job: Job, guests: Guests) -> Observation<P>
+    requires { X.may_run by.now job.settings.serial }
     ensures kept { IfOk result (HasKept P.keep job) }
     ensures guests { IfOk result (λ observed. observed.report.guests ≡ guests) }
 {
     let (settings, program) = (job.settings, ProgramTree::of(&job.loaded));
-    let mut parts = keepers::<P>(job.alloc, settings.threads)?;
-    let ran = runner.run(job, &mut parts)?;
+    let parts = keepers::<P>(job.alloc, settings.threads)?;
+    let ran = by.run(job, parts)?;
     Ok(with_report(settings, program, ran, guests))
 }
 
@@ -68,7 +68,7 @@ pub(crate) fn record<X: Runner, O: Sink>(by: &X, job: Job, guests: Guests, out: 
     ensures untouched { OnErr result (out.new ≡ out.old) }
 {
     let alloc = job.alloc;
-    let Observed { report, parts, .. } = run_kept::<X, Recorder>(by, job, guests)?;
+    let ObservedRun { report, parts, .. } = run_kept::<X, Recorder>(by, job, guests)?;
     let end = write_trace_of_run(alloc, report.threads, report.cause, &parts, out);
     Ok(AfterRun { end, report })
 }
@@ -94,28 +94,6 @@ fn write_trace_of_run<O: Sink>(
     if cause == Cause::Memory {
         return End::Memory;
     }
-    write_recorded(alloc, threads, cause, parts, out)
-}
-
-/// Writes the trace of a run that found memory.
-fn write_recorded<O: Sink>(
-    alloc: Global,
-    threads: u8,
-    cause: Cause,
-    parts: &[Recorder],
-    out: &mut O,
-) -> End
-    requires found { cause ≢ Cause.Memory }
-    requires shared { IsSharedFew parts.now }
-    ensures end { EndsAs cause result }
-    ensures found { cause ≢ Cause.Memory }
-    ensures written { (events : List EventRecord) → AreShared events parts.now →
-        HasWritten result (spelling (fields_of (trace_with threads PROFILE_MASK cause events))) (O.held out.old)
-        (O.held out.new) }
-    ensures fits { (events : List EventRecord) → AreShared events parts.now → result ≢ End.WriteFault →
-        result ≢ End.Memory → FitsCause cause × All FitsFields events }
-    ensures faults { CountsFaults result End.WriteFault (O.faults out.old) (O.faults out.new) }
-{
     let Ok(events) = merge(alloc, parts) else {
         return End::Memory;
     };

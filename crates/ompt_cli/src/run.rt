@@ -11,10 +11,10 @@ ghost use Rattle.ompt_cli.specs.{declared.job.Job.Job, Guests.GuestsAfter, Repor
 use crate::end::End;
 use crate::guests::{Guests, Handing, hand_out_all, take_back_all};
 use crate::job::Job;
-use crate::observing::{Observed, Seen};
-use crate::report::{AfterRun, Came, Report};
+use crate::observing::{Observation, ObservedRun, with_report};
+use crate::report::{AfterRun, Came, ProgramTree, Report};
 use crate::runner::Runner;
-use crate::writing::{Made, write_made, write_run};
+use crate::writing::{Lines, write_made, write_run};
 use history_file::{FileText, HistoryFile, end_of, write_history};
 use omp_model::Cause;
 use ompt_calls::Sequence;
@@ -24,13 +24,6 @@ use std::alloc::{AllocError, Global};
 use tool_profiled::{Joined, Parted, join_all, part_all};
 use tool_report::{Profile, profile_text};
 
-/// What a run with guests gave: its report, in which the guests are back, and the bytes that the program printed.
-#[derive(Drop)]
-struct Served {
-    report: Report,
-    text: Vec<u8>,
-}
-
 /// Runs the job, and writes what the program printed. Guest t is the part of thread t; threads past the guests have none.
 pub(crate) fn run_printed<X: Runner, O: Sink>(by: &X, job: Job, guests: Guests, out: &mut O) -> Came
     requires kind { X.may_run by.now job.settings.serial }
@@ -39,7 +32,7 @@ pub(crate) fn run_printed<X: Runner, O: Sink>(by: &X, job: Job, guests: Guests, 
         O.held O.faults job guests.items out.old out.new ended.end ended.report) }
     ensures untouched { OnErr result (out.new ≡ out.old) }
 {
-    let Served { report, text } = serve(by, job, guests)?;
+    let (report, text) = serve(by, job, guests)?;
     let end = write_run(report.cause, &text, out);
     Ok(AfterRun { end, report })
 }
@@ -53,29 +46,27 @@ pub(crate) fn run_history<X: Runner, O: Sink>(by: &X, job: Job, guests: Guests, 
     ensures untouched { OnErr result (out.new ≡ out.old) }
 {
     let text = Sequence(job.loaded.text.as_slice().to_vec(job.alloc)?);
-    let Served { report, .. } = serve(by, job, guests)?;
+    let (report, _) = serve(by, job, guests)?;
     Ok(write_history_of_run(report, text, out))
 }
 
-/// Runs the job with the guests. A run that found no memory for its first entry is none.
-fn serve<X: Runner>(runner: &X, job: Job, guests: Guests) -> Result<Served, AllocError>
-    requires kind { X.may_run runner.now job.settings.serial }
+/// Runs the job with the guests, which are back in its report, beside what the program printed. A run that found no memory for its first entry is none.
+fn serve<X: Runner>(by: &X, job: Job, guests: Guests) -> Result<(Report, Vec<u8>), AllocError>
+    requires kind { X.may_run by.now job.settings.serial }
     requires command { (job.settings.command ≡ Command.Run RunOutput.Printed) ⊎
         (job.settings.command ≡ Command.Run RunOutput.History) }
-    ensures observes { IfOk result (λ served. Observes job served.report) }
+    ensures observes { IfOk result (λ served. Observes job served.0) }
     ensures guests { IfOk result (λ served.
-        GuestsAfter (λ guest h. (GuestTool-box guest).stands_for guest.value h) guests.items served.report) }
+        GuestsAfter (λ guest h. (GuestTool-box guest).stands_for guest.value h) guests.items served.0) }
     ensures printed { IfOk result (λ served.
-        served.text.items ≡ (after (run_of served.report) served.report.history).world.store.text) }
+        served.1.items ≡ (after (run_of served.0) served.0.history).world.store.text) }
 {
     let Handing { parts, waiting } = hand_out_all(job.alloc, job.settings.threads, guests)?;
-    let observed = runner.run_guests(job, parts)?;
-    let text = observed.text;
-    let report = Report {
-        guests: take_back_all(observed.parts, waiting),
-        ..observed.report
-    };
-    Ok(Served { report, text })
+    let (alloc, settings, program) = (job.alloc, job.settings, ProgramTree::of(&job.loaded));
+    let ran = by.run_guests(job, parts)?;
+    let mut observed = with_report(settings, program, ran, Vec::new(alloc));
+    observed.report.guests = take_back_all(observed.parts, waiting);
+    Ok((observed.report, observed.text))
 }
 
 /// Runs the job, and writes what the program printed, and then how many calls of each callback there were. Guest t is the part of thread t beside a profile.
@@ -95,7 +86,7 @@ pub(crate) fn run_profile<X: Runner, O: Sink>(by: &X, job: Job, guests: Guests, 
 }
 
 /// This text, and behind it the report of what these profiles counted.
-fn with_profile(alloc: Global, printed: Vec<u8>, profiles: &[Profile]) -> Made
+fn with_profile(alloc: Global, printed: Vec<u8>, profiles: &[Profile]) -> Lines
     ensures { IfOk result (λ text. (events : List EventRecord) → AreKept counts_of events profiles.now →
         text.items ≡ printed.items ++ profile_of events) }
 {
@@ -106,8 +97,8 @@ fn with_profile(alloc: Global, printed: Vec<u8>, profiles: &[Profile]) -> Made
 }
 
 /// Runs the job with the guests beside profiles. The guests are back in the report, and the parts are the profiles.
-fn serve_profiled<X: Runner>(runner: &X, job: Job, guests: Guests) -> Seen<Profile>
-    requires kind { X.may_run runner.now job.settings.serial }
+fn serve_profiled<X: Runner>(by: &X, job: Job, guests: Guests) -> Observation<Profile>
+    requires kind { X.may_run by.now job.settings.serial }
     requires command { job.settings.command ≡ Command.Run RunOutput.Profile }
     ensures observes { IfOk result (λ counted. Observes job counted.report) }
     ensures guests { IfOk result (λ counted.
@@ -119,17 +110,15 @@ fn serve_profiled<X: Runner>(runner: &X, job: Job, guests: Guests) -> Seen<Profi
 {
     let Handing { parts, waiting } = hand_out_all(job.alloc, job.settings.threads, guests)?;
     let Joined { parts, room, .. } = join_all(job.alloc, parts)?;
-    let observed = runner.run_joined(job, parts)?;
-    let text = observed.text;
+    let (alloc, settings, program) = (job.alloc, job.settings, ProgramTree::of(&job.loaded));
+    let ran = by.run_joined(job, parts)?;
+    let mut observed = with_report(settings, program, ran, Vec::new(alloc));
     let Parted { parts, profiles } = part_all(room, observed.parts);
-    let report = Report {
-        guests: take_back_all(parts, waiting),
-        ..observed.report
-    };
-    Ok(Observed {
-        report,
+    observed.report.guests = take_back_all(parts, waiting);
+    Ok(ObservedRun {
+        report: observed.report,
         parts: profiles,
-        text,
+        text: observed.text,
     })
 }
 

@@ -2,12 +2,12 @@
 
 ghost use Rattle.std.specs.{Prelude.◌≡◌, Prelude.Bool, Prelude.IfOk, Prelude.length, Prelude.true, Thread.IsSync};
 ghost use Rattle.ompt_cli.specs.Names.{HandedFor, SameHanded, ProfiledFor, SameProfiled};
-ghost use Rattle.ompt_cli.specs.Reports.{HasObserved, RunsJob};
+ghost use Rattle.ompt_cli.specs.Reports.{RunsJob};
 
-use crate::guests::Held;
+use crate::guests::Part;
 use crate::job::Job;
 use crate::keepers::Keeper;
-use crate::observing::{Gave, Seen, observe, observe_alone};
+use crate::observing::{Gave, run_alone, run_by_threads};
 use std::sync::Wait;
 use std::thread::Threads;
 use tool_profiled::Profiled;
@@ -17,24 +17,24 @@ pub(crate) trait Runner {
     /// Whether it runs jobs that are serial, or jobs that aren't.
     ghost may_run: { Self → Bool → Type 0 };
 
-    /// Runs the job with the parts that this list has. What the list holds afterwards is no clause.
-    fn run<P: Keeper>(&self, job: Job, parts: &mut Vec<P>) -> Gave<P>
-        requires kind { may_run self.now job.settings.serial }
-        requires parts { length parts.old.items ≡ job.settings.threads }
-        ensures { IfOk result (RunsJob P.stands_for P.same job parts.old.items) };
-
-    /// Runs the job with these parts. The report has no guests.
-    fn run_guests(&self, job: Job, parts: Vec<Held>) -> Seen<Held>
+    /// Runs the job with these parts.
+    fn run<P: Keeper>(&self, job: Job, parts: Vec<P>) -> Gave<P>
         requires kind { may_run self.now job.settings.serial }
         requires parts { length parts.items ≡ job.settings.threads }
-        ensures { IfOk result (HasObserved (HandedFor (λ guest h. (GuestTool-box guest.0).stands_for guest.0.value h))
+        ensures { IfOk result (RunsJob P.stands_for P.same job parts.items) };
+
+    /// Runs the job with these parts, which are guests.
+    fn run_guests(&self, job: Job, parts: Vec<Part>) -> Gave<Part>
+        requires kind { may_run self.now job.settings.serial }
+        requires parts { length parts.items ≡ job.settings.threads }
+        ensures { IfOk result (RunsJob (HandedFor (λ guest h. (GuestTool-box guest.0).stands_for guest.0.value h))
             (SameHanded (λ guest other. guest.0.vtable ≡ other.0.vtable)) job parts.items) };
 
-    /// Runs the job with these parts, which are joined with profiles. The report has no guests.
-    fn run_joined(&self, job: Job, parts: Vec<Profiled<Held>>) -> Seen<Profiled<Held>>
+    /// Runs the job with these parts, which are joined with profiles.
+    fn run_joined(&self, job: Job, parts: Vec<Profiled<Part>>) -> Gave<Profiled<Part>>
         requires kind { may_run self.now job.settings.serial }
         requires parts { length parts.items ≡ job.settings.threads }
-        ensures { IfOk result (HasObserved
+        ensures { IfOk result (RunsJob
             (ProfiledFor (HandedFor (λ guest h. (GuestTool-box guest.0).stands_for guest.0.value h)))
             (SameProfiled (SameHanded (λ guest other. guest.0.vtable ≡ other.0.vtable))) job parts.items) };
 }
@@ -46,16 +46,16 @@ pub(crate) struct Alone;
 impl Runner for Alone {
     ghost may_run = { λ _ serial. serial ≡ true };
 
-    fn run<P: Keeper>(&self, job: Job, parts: &mut Vec<P>) -> Gave<P> {
+    fn run<P: Keeper>(&self, job: Job, parts: Vec<P>) -> Gave<P> {
         P::run_alone(job, parts)
     }
 
-    fn run_guests(&self, job: Job, parts: Vec<Held>) -> Seen<Held> {
-        observe_alone(job, parts)
+    fn run_guests(&self, job: Job, parts: Vec<Part>) -> Gave<Part> {
+        run_alone(job, parts)
     }
 
-    fn run_joined(&self, job: Job, parts: Vec<Profiled<Held>>) -> Seen<Profiled<Held>> {
-        observe_alone(job, parts)
+    fn run_joined(&self, job: Job, parts: Vec<Profiled<Part>>) -> Gave<Profiled<Part>> {
+        run_alone(job, parts)
     }
 }
 
@@ -66,15 +66,15 @@ pub(crate) struct WithThreads<'a, R>(pub &'a R);
 impl<'a, R: Threads + Wait + Sync> Runner for WithThreads<'a, R> {
     ghost may_run = { λ _ _. IsSync R.row };
 
-    fn run<P: Keeper>(&self, job: Job, parts: &mut Vec<P>) -> Gave<P> {
+    fn run<P: Keeper>(&self, job: Job, parts: Vec<P>) -> Gave<P> {
         P::on_threads(self.0, job, parts)
     }
 
-    fn run_guests(&self, job: Job, parts: Vec<Held>) -> Seen<Held> {
-        observe(self.0, job, parts)
+    fn run_guests(&self, job: Job, parts: Vec<Part>) -> Gave<Part> {
+        run_by_threads(self.0, job, parts)
     }
 
-    fn run_joined(&self, job: Job, parts: Vec<Profiled<Held>>) -> Seen<Profiled<Held>> {
-        observe(self.0, job, parts)
+    fn run_joined(&self, job: Job, parts: Vec<Profiled<Part>>) -> Gave<Profiled<Part>> {
+        run_by_threads(self.0, job, parts)
     }
 }

@@ -4,7 +4,7 @@ ghost use Rattle.std.specs.Prelude.{ℕ, ◌≡◌, ◌≢◌, ◌≤◌, IfOk, 
 ghost use Rattle.ompt_cli.specs.{Names.Rose, Text.EndsFor, Text.IsLoaded, Text.Spells, Text.text_for};
 
 use crate::end::{End, Refusal};
-use crate::job::Loaded;
+use crate::job::LoadedProgram;
 use c_check::{CheckFault, Program, check};
 use c_syntax::{SyntaxFault, read_program};
 use c_tokens::{TokenFault, tokens};
@@ -22,7 +22,7 @@ pub(crate) fn program_for<S: Source>(
     alloc: Global,
     command: Command,
     source: &mut S,
-) -> Result<Loaded, End>
+) -> Result<LoadedProgram, End>
     ensures loaded { IfOk result (IsLoaded (text_for command (S.left source.old))) }
     ensures ended { IfErr result (EndsFor (text_for command (S.left source.old))) }
     ensures read { result ≡ Err End.ReadFault → Rose (S.faults source.old) (S.faults source.new) }
@@ -39,7 +39,7 @@ pub(crate) fn program_for<S: Source>(
 }
 
 /// Reads the text to its end. It spells the program, or the command ends for want of a program that runs.
-fn read_program_of<S: Source>(alloc: Global, source: &mut S) -> Result<Loaded, End>
+fn read_program_of<S: Source>(alloc: Global, source: &mut S) -> Result<LoadedProgram, End>
     ensures loaded { IfOk result (IsLoaded (S.left source.old)) }
     ensures ended { IfErr result (EndsFor (S.left source.old)) }
     ensures read { result ≡ Err End.ReadFault → Rose (S.faults source.old) (S.faults source.new) }
@@ -54,7 +54,7 @@ fn read_program_of<S: Source>(alloc: Global, source: &mut S) -> Result<Loaded, E
 }
 
 /// The program that the text spells, with the text.
-fn load(alloc: Global, text: Vec<u8>) -> Result<Loaded, End>
+fn load(alloc: Global, text: Vec<u8>) -> Result<LoadedProgram, End>
     ensures loaded { IfOk result (IsLoaded (Some text.items)) }
     ensures ended { IfErr result (EndsFor (Some text.items)) }
     ensures read { result ≢ Err End.ReadFault }
@@ -62,10 +62,8 @@ fn load(alloc: Global, text: Vec<u8>) -> Result<Loaded, End>
     if text.len() > TEXT_LIMIT as usize {
         return Err(End::Refused(Refusal::TooLong));
     }
-    match program_of(alloc, &text) {
-        Ok(program) => Ok(Loaded { program, text }),
-        Err(end) => Err(end),
-    }
+    let program = program_of(alloc, &text)?;
+    Ok(LoadedProgram { program, text })
 }
 
 /// The program that the text spells. The tokens are tried first, then the grammar, and then the rules.

@@ -2,14 +2,13 @@
 
 ghost use Rattle.std.specs.Prelude.{ℕ, ◌≡◌, false, true, IfErr, IfOk, IfSome, IsNone, List, ◌⊎◌};
 ghost use Rattle.ompt_words.specs.declared.settings.Request.TheVariants as request;
-ghost use Rattle.ompt_cli.specs.{Commands.CountsFaults, Commands.HasWritten, Commands.out_of, Ends.TellsEnd, Guests.GuestsAfter};
-ghost use Rattle.ompt_cli.specs.Top.{CarriesOut, FollowsWords, HasTrace, IsRunOf, JudgesText, ShowsFaults, StaysUntouched};
-ghost use Rattle.ompt_cli.specs.{Traces.HasReadInput, Words.AreFaulty, Words.AreInRange, Words.AreTakenAs, Words.texts};
+ghost use Rattle.ompt_cli.specs.{Commands.CountsFaults, Commands.HasWritten, Ends.TellsEnd, Guests.GuestsAfter, Top.CarriesOut};
+ghost use Rattle.ompt_cli.specs.Words.{AreFaulty, AreInRange, AreTakenAs, texts};
 
 use crate::commands::run_settings;
 use crate::end::End;
 use crate::read_commands::read_input;
-use crate::report::{ByThreads, Top, without_run};
+use crate::report::{ByThreads, Outcome, Top, without_run};
 use crate::runner::{Alone, WithThreads};
 use ompt_words::{Request, WordsFault, request_of};
 use run_edges::{Sink, Source, write_all};
@@ -39,34 +38,21 @@ pub fn top<R: Threads + Wait + Sync, S: Source, O: Sink, E: Sink>(
 ) -> Top
     // The line of the end is told and the status is the end's, unless a write of the line failed.
     ensures told { TellsEnd E.held E.faults result.status result.end err.old err.new }
-    // The words decide which of a run, a text that is shown and a trace or a history that is read is there.
-    ensures words { FollowsWords (texts words.now) result.end result.shown result.read result.ran }
-    // What ran is the program that the words and the source say, in one legal run that ends in the cause that is reported.
-    ensures ran { IfSome result.ran (IsRunOf (texts words.now) (S.left source.old) result.end) }
+    // What the words decide, what ran, what was read and written, which texts are refused, which faults show, and what stays untouched.
+    ensures carried { CarriesOut S.left S.faults O.held O.faults (texts words.now)
+        result.end result.shown result.read result.ran source.old source.new out.old out.new }
     // Guest t was called for what thread t heard, in its order, beside a profile for what the guests registered of that, and for nothing else but a call
     // that found no memory, which ends the run.
     ensures guests { IfSome result.ran (GuestsAfter (λ guest h.
         (GuestTool-box guest).stands_for guest.value h) guests.items) }
-    // Where a trace or a history file was read, the end says what was read and written of it.
-    ensures read { IfSome result.read (λ command.
-        HasReadInput command result.end (S.left source.old) (S.left source.new) (O.held out.old) (O.held out.new)) }
-    // A text that was to run is refused exactly for a reason that it has.
-    ensures text { JudgesText (texts words.now) (S.left source.old) result.end result.read }
-    // Where neither is read, what is written is the text that was asked for, or what the command writes of its run.
-    ensures written { IsNone result.read →
-        HasWritten result.end (out_of result.shown result.ran) (O.held out.old) (O.held out.new) }
-    // A recording is a trace, the trace of each run of the shipped parts is nested, and a history that is written is a certificate.
-    ensures recorded { IfSome result.ran (HasTrace result.end) }
-    // Each fault of a read or a write was counted, and shows in the end.
-    ensures faults { ShowsFaults result.end (S.faults source.old) (S.faults source.new) (O.faults out.old)
-        (O.faults out.new) }
-    // Nothing is read that the words don't ask for, and nothing is touched where they are refused.
-    ensures untouched { StaysUntouched (texts words.now) result.end result.shown result.read source.old source.new
-        out.old out.new }
 {
     match top_alone(alloc, words, source, out, err, guests) {
         Ok(top) => top,
-        Err(asked) => top_by_threads(rt, alloc, asked, source, out, err),
+        Err(asked) => {
+            let by = WithThreads(rt);
+            let outcome = run_settings(&by, alloc, asked.settings, source, out, asked.guests);
+            tell(outcome, err)
+        }
     }
 }
 
@@ -103,8 +89,7 @@ pub fn top_alone<S: Source, O: Sink, E: Sink>(
             Ok(tell(outcome, err))
         }
         Ok(Request::Read(command)) => {
-            let outcome = Top {
-                status: 0,
+            let outcome = Outcome {
                 end: read_input(alloc, command, source, out),
                 ran: None,
                 shown: None,
@@ -116,30 +101,8 @@ pub fn top_alone<S: Source, O: Sink, E: Sink>(
     }
 }
 
-/// Runs a program by threads, as the words ask.
-fn top_by_threads<R: Threads + Wait + Sync, S: Source, O: Sink, E: Sink>(
-    rt: &R,
-    alloc: Global,
-    asked: ByThreads,
-    source: &mut S,
-    out: &mut O,
-    err: &mut E,
-) -> Top
-    requires range { AreInRange asked.settings }
-    ensures told { TellsEnd E.held E.faults result.status result.end err.old err.new }
-    ensures carried { (words : List (List ℕ)) → AreTakenAs words (request.Run asked.settings) →
-        CarriesOut S.left S.faults O.held O.faults words result.end result.shown result.read result.ran source.old
-        source.new out.old out.new }
-    ensures guests { IfSome result.ran (GuestsAfter (λ guest h.
-        (GuestTool-box guest).stands_for guest.value h) asked.guests.items) }
-{
-    let ByThreads { settings, guests } = asked;
-    let outcome = run_settings(&WithThreads(rt), alloc, settings, source, out, guests);
-    tell(outcome, err)
-}
-
 /// Shows the text that the words ask for, or refuses them. Nothing is read.
-fn without_request<S: Source, O: Sink>(fault: WordsFault, _source: &S, out: &mut O) -> Top
+fn without_request<S: Source, O: Sink>(fault: WordsFault, _source: &S, out: &mut O) -> Outcome
     ensures carried { (words : List (List ℕ)) → AreFaulty words fault →
         CarriesOut S.left S.faults O.held O.faults words result.end result.shown result.read result.ran _source.now
         _source.now out.old out.new }
@@ -148,8 +111,7 @@ fn without_request<S: Source, O: Sink>(fault: WordsFault, _source: &S, out: &mut
     match fault {
         WordsFault::Usage => without_run(End::Usage),
         WordsFault::Memory => without_run(End::Memory),
-        WordsFault::Shown(text) => Top {
-            status: 0,
+        WordsFault::Shown(text) => Outcome {
             end: show(&text, out),
             ran: None,
             shown: Some(text),
@@ -171,7 +133,7 @@ fn show<O: Sink>(text: &str, out: &mut O) -> End
 }
 
 /// Writes the line of the end, and has the status.
-fn tell<E: Sink>(outcome: Top, err: &mut E) -> Top
+fn tell<E: Sink>(outcome: Outcome, err: &mut E) -> Top
     ensures end { result.end ≡ outcome.end }
     ensures ran { result.ran ≡ outcome.ran }
     ensures shown { result.shown ≡ outcome.shown }
@@ -181,9 +143,14 @@ fn tell<E: Sink>(outcome: Top, err: &mut E) -> Top
     let end = outcome.end;
     let line = end.line();
     let status = match write_all(err, line.as_str().as_bytes()) {
-        Ok(()) => end.status(),
-        Err(_) if end == End::Memory => end.status(),
-        Err(_) => End::WriteFault.status(),
+        Err(_) if end != End::Memory => End::WriteFault.status(),
+        _ => end.status(),
     };
-    Top { status, ..outcome }
+    Top {
+        status,
+        end,
+        ran: outcome.ran,
+        shown: outcome.shown,
+        read: outcome.read,
+    }
 }

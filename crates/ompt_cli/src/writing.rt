@@ -9,11 +9,11 @@ use run_edges::{Sink, write_all};
 use std::alloc::AllocError;
 
 /// What was made to be written, unless there was no memory for it.
-pub(crate) type Made = Result<Vec<u8>, AllocError>;
+pub(crate) type Lines = Result<Vec<u8>, AllocError>;
 
 /// Writes what was made of a run that ended in this cause, unless there was no memory for it or the run found none. It answers how the
 /// command ends.
-pub(crate) fn write_made<O: Sink>(cause: Cause, made: Made, out: &mut O) -> End
+pub(crate) fn write_made<O: Sink>(cause: Cause, made: Lines, out: &mut O) -> End
     ensures end { EndsAs cause result }
     ensures written { (text : List ℕ) → IfOk made (λ lines. lines.items ≡ text) →
         HasWritten result (unless_memory cause text) (O.held out.old) (O.held out.new) }
@@ -42,7 +42,7 @@ pub(crate) fn write_run<O: Sink>(cause: Cause, text: &[u8], out: &mut O) -> End
 }
 
 /// Writes what was made of what a command has read, unless there was no memory for it. It answers how the command ends.
-pub(crate) fn write_read<O: Sink>(made: Made, out: &mut O) -> End
+pub(crate) fn write_read<O: Sink>(made: Lines, out: &mut O) -> End
     ensures end { (result ≡ End.Read) ⊎ ((result ≡ End.WriteFault) ⊎ (result ≡ End.Memory)) }
     ensures memory { IfErr made (λ _. result ≡ End.Memory) }
     ensures written { (text : List ℕ) → IfOk made (λ lines. lines.items ≡ text) →

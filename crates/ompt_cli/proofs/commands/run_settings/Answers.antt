@@ -1,5 +1,5 @@
 use Rattle.std.proofs.Common.{◌∙◌, Err, ap, refl, sym}
-use Rattle.ompt_cli.{specs.declared.end.End.End, specs.declared.end.End.TheVariants.Memory, proofs.Carrying.end_carried, proofs.Carrying.run_carried, proofs.Reading.ends-memory}
+use Rattle.ompt_cli.{specs.declared.end.End.End, specs.declared.end.End.TheVariants.Memory, proofs.Carrying.end_carried, proofs.Carrying.run_carried}
 use Rattle.ompt_cli.proofs.commands.run_settings.Goals as goal
 
 pub returns-in-Ok-run_command-clause-carried : goal.returns-in-Ok-run_command-clause-carried
@@ -11,7 +11,7 @@ pub returns-in-Err-run_command-clause-carried : goal.returns-in-Err-run_command-
 returns-in-Err-run_command-clause-carried g c = λ words taken.
     rw (c.without_run-in-Err-run_command.ensures, c.in-Err-run_command.ensures.untouched)
     (end_carried g.S.Source.left g.S.Source.faults g.O.Sink.held g.O.Sink.faults words c.args.settings taken Memory c.args.source.now c.program_for.new.source c.args.out.now
-    (ends-memory _)
+    (record { before = tt; refused = λ why same. absurd cc; accepted = λ why has. tt; runs = λ program. tt })
     (record { rose = λ is. absurd cc; steady = λ other. c.program_for.ensures.steady (λ is. let same = sym c.in-Ok.is ∙ is in cc) })
     c.in-Ok.ensures.unread)
 

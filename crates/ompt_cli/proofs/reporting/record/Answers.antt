@@ -1,8 +1,8 @@
 use Rattle.std.proofs.Common.{ℕ, ◌∙◌, List, ap, subst, sym}
-use Rattle.run_trace.proofs.Traces.{traces_of_runs}
+use Rattle.run_trace.proofs.{Heard.few-records, Traces.traces_of_runs}
 use Rattle.ompt_cli.specs.Names.{records_of, trace_with, fields_of, spelling, AreShared, Recording}
 use Rattle.ompt_cli.proofs.Telling.{command-is, few-threads, guests-kept, some-threads, written-as}
-use Rattle.ompt_cli.{specs.Commands.HasGuests, specs.Commands.HasWritten, specs.Commands.run_of, specs.Commands.unless_memory, proofs.Keeping.kept-shared, proofs.Written.ends-found, proofs.Written.shared-few}
+use Rattle.ompt_cli.{specs.Commands.HasGuests, specs.Commands.HasWritten, specs.Commands.run_of, specs.Commands.unless_memory, proofs.Keeping.kept-shared, proofs.Written.ends-found}
 use Rattle.ompt_cli.proofs.reporting.record.Goals as goal
 
 pub write_trace_of_run-end-requires : goal.write_trace_of_run-end-requires
@@ -10,7 +10,7 @@ write_trace_of_run-end-requires g c =
     let report = c.in_ok-report.field-0.report in
     let has = c.in_ok-report.ensures.kept in
     let shared : AreShared (records_of (run_of report) report.history) c.deref.result.now = rw c.deref.ensures.value (kept-shared _ _ has.kept) in
-    record { shared = shared-few (run_of report) report.history _ (some-threads c.args.job report has.observes) has.observes.to.legal shared }
+    record { shared = (records_of (run_of report) report.history, shared, few-records (run_of report) report.history (some-threads c.args.job report has.observes) has.observes.to.legal) }
 
 pub returns-clause-ran : goal.returns-clause-ran
 returns-clause-ran g c =

@@ -8,7 +8,7 @@ write_history_of_run-requires-clause-observes g c = (c.args.job, c.in_ok-report.
 pub returns-clause-ran : goal.returns-clause-ran
 returns-clause-ran g c =
     let observes = c.in_ok-report.ensures.observes in
-    let command = command-is c.args.job c.in_ok-report.field-0.report observes ∙ c.requires.command in
+    let command = command-is c.args.job c.in_ok-report.report observes ∙ c.requires.command in
     rw c.write_history_of_run.ensures.report
     (record {
       observes = observes;

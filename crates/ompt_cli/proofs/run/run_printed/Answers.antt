@@ -6,7 +6,7 @@ use Rattle.ompt_cli.proofs.run.run_printed.Goals as goal
 
 pub returns-clause-ran : goal.returns-clause-ran
 returns-clause-ran g c =
-    let report = c.in_ok-report.field-0.report in
+    let report = c.in_ok-report.report in
     let observes = c.in_ok-report.ensures.observes in
     let command = command-is c.args.job report observes ∙ c.requires.command in record {
       observes = observes;

@@ -1,7 +1,7 @@
 use Rattle.std.proofs.{Common.Err, Common.ap, lemmas.Bool.not-false, lemmas.Bool.not-true}
 use Rattle.ompt_words.specs.declared.settings.Request.TheVariants as request
 use Rattle.ompt_words.specs.declared.fault.WordsFault.{WordsFault}
-use Rattle.ompt_cli.proofs.Carrying.{in-range, read_carried, serial-reported, taken-as}
+use Rattle.ompt_cli.proofs.Carrying.{read_carried, serial-reported, taken-as}
 use Rattle.ompt_cli.specs.Words.{texts}
 use Rattle.ompt_cli.proofs.top_call.top_alone.Goals as goal
 
@@ -9,7 +9,7 @@ pub returns-then-not-settings-clause-asked : goal.returns-then-not-settings-clau
 returns-then-not-settings-clause-asked g c =
     let of = c.in-Ok-Run.ensures in
     let taken = taken-as (texts c.args.words.now) c.in-Ok-Run.field-0 (request.Run c.in-Ok-Run.settings) c.in-Ok-Run.field-0-is of.read of.exact of.form of.read_form of.asked of.clash in
-    (taken, in-range (texts c.args.words.now) c.in-Ok-Run.settings taken, not-true _ c.if-not-settings.true)
+    (taken, record { some = taken.read.some_threads; few = taken.read.few_threads; steps = taken.read.some_steps; bounded = taken.read.few_steps }, not-true _ c.if-not-settings.true)
 
 pub returns-else-not-settings-clause-carried : goal.returns-else-not-settings-clause-carried
 returns-else-not-settings-clause-carried g c =
