@@ -15,11 +15,11 @@ ghost use Rattle.c_steps.specs.Steps.{Advances, CanStep, Tells};
 use crate::cells::Cells;
 use crate::code::Code;
 use crate::control::Control;
-use crate::control::events::{asks, event, synchronises};
+use crate::control::events::{acquire, asks, end_work, event, release, synchronises};
 use crate::item::Item;
 use crate::next::{Next, made};
 use crate::node::Node;
-use c_model::{Ask, MutexKind, Point, View};
+use c_model::{Ask, Point, View};
 
 impl Control {
     /// Makes one silent step, or says what stands next. At anything but a silent step the cells are as they were, and the control stands for
@@ -52,7 +52,7 @@ impl Control {
         }
     }
 
-    /// The step of what stands next: one line for each item.
+    /// The step of what stands next: an arm for each item.
     #[inline(always)]
     fn advance_item(&mut self, code: &Code, cells: &mut Cells, view: View, item: Item) -> Next
         requires ready { CanStep code.now view self.old }
@@ -100,16 +100,7 @@ impl Control {
                 kind,
                 count,
                 ..
-            } => {
-                let node = Node { code, number: node };
-                let codeptr = node.place();
-                let point = Point::WorkEnd {
-                    codeptr,
-                    kind,
-                    count,
-                };
-                event(node, point)
-            }
+            } => end_work(Node { code, number: node }, kind, count),
             Item::EndMasked(number) => {
                 let node = Node { code, number };
                 let codeptr = node.place();
@@ -118,24 +109,8 @@ impl Control {
             Item::Sync { node, kind, stage } => {
                 synchronises(Node { code, number: node }, kind, stage)
             }
-            Item::Acquire { node, kind, id } => {
-                let node = Node { code, number: node };
-                let point = Point::MutexAcquired {
-                    codeptr: node.place(),
-                    wait_id: id,
-                    kind,
-                };
-                event(node, point)
-            }
-            Item::Release { node, id } => {
-                let node = Node { code, number: node };
-                let point = Point::MutexReleased {
-                    codeptr: node.place(),
-                    wait_id: id,
-                    kind: MutexKind::Critical,
-                };
-                event(node, point)
-            }
+            Item::Acquire { node, kind, id } => acquire(Node { code, number: node }, kind, id),
+            Item::Release { node, id } => release(Node { code, number: node }, id),
             Item::TestLock { node, id, .. } => {
                 asks(Node { code, number: node }, Ask::LockFree(id))
             }

@@ -22,7 +22,9 @@ use crate::control::Control;
 use crate::loops::{LoopNodes, iteration_count, loop_nodes};
 use crate::next::{Next, made};
 use crate::node::Node;
-use c_model::{Ask, CELLS, MutexKind, Point, Schedule, SyncKind, SyncStage, Target, View, Work};
+use c_model::{
+    Ask, CELLS, MutexKind, Point, Schedule, SyncKind, SyncStage, Target, View, Work, WorkKind,
+};
 use c_syntax::{Directive, NodeKind};
 
 impl Control {
@@ -186,6 +188,42 @@ pub(super) fn synchronises(node: Node, kind: SyncKind, stage: SyncStage) -> Next
         kind,
         stage,
         codeptr: node.place(),
+    };
+    event(node, point)
+}
+
+/// The task's part of a worksharing construct ends.
+pub(super) fn end_work(node: Node, kind: WorkKind, count: u64) -> Next
+    ensures { TellsOf (λ tree. constructs.end_work tree kind count) node.entry result }
+{
+    let point = Point::WorkEnd {
+        codeptr: node.place(),
+        kind,
+        count,
+    };
+    event(node, point)
+}
+
+/// A lock or critical comes to be owned.
+pub(super) fn acquire(node: Node, kind: MutexKind, wait_id: u32) -> Next
+    ensures { TellsOf (λ tree. constructs.acquires tree kind wait_id) node.entry result }
+{
+    let point = Point::MutexAcquired {
+        codeptr: node.place(),
+        wait_id,
+        kind,
+    };
+    event(node, point)
+}
+
+/// A critical is given back.
+pub(super) fn release(node: Node, wait_id: u32) -> Next
+    ensures { TellsOf (λ tree. constructs.releases tree wait_id) node.entry result }
+{
+    let point = Point::MutexReleased {
+        codeptr: node.place(),
+        wait_id,
+        kind: MutexKind::Critical,
     };
     event(node, point)
 }
