@@ -14,17 +14,17 @@ pub plain_is : (byte : ℕ) (bytes : List ℕ) (numbers : List ℤ) →
 unfolding printed_text
 plain_is byte bytes numbers = refl
 
-pub percent_is : (byte : ℕ) (bytes : List ℕ) (numbers : List ℤ) →
+pub format_is : (byte : ℕ) (bytes : List ℕ) (numbers : List ℤ) →
     text_behind_percent (byte ∷ bytes) numbers
     ≡ (if byte == 100 then first_decimal numbers ++ printed_text bytes (numbers_behind_first numbers)
     else if byte == 37 then 37 ∷ printed_text bytes numbers else printed_text bytes numbers)
 unfolding printed_text
-percent_is byte bytes numbers = refl
+format_is byte bytes numbers = refl
 
-pub backslash_is : (byte : ℕ) (bytes : List ℕ) (numbers : List ℤ) →
+pub slash_is : (byte : ℕ) (bytes : List ℕ) (numbers : List ℤ) →
     text_behind_backslash (byte ∷ bytes) numbers ≡ escaped_byte byte ∷ printed_text bytes numbers
 unfolding printed_text
-backslash_is byte bytes numbers = refl
+slash_is byte bytes numbers = refl
 
 nothing_left : (before : Before) (numbers : List ℤ) → text_left before [] numbers ≡ []
 unfolding printed_text

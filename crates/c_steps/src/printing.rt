@@ -174,7 +174,7 @@ fn number_at(scope: &Scope<'_>, node: u32, place: u32) -> Option<i32>
 }
 
 /// What a byte prints behind what stands before it, and what stands before the next byte.
-#[tactic(auto, using(crate::proofs::PrintingText::plain_is, crate::proofs::PrintingText::percent_is, crate::proofs::PrintingText::backslash_is))]
+#[tactic(auto, using(crate::proofs::PrintingText::plain_is, crate::proofs::PrintingText::format_is, crate::proofs::PrintingText::slash_is))]
 fn read_byte(before: Before, byte: u8) -> (Piece, Before)
     ensures { (bytes : List ℕ) (numbers : List ℤ) → text_left before (byte ∷ bytes) numbers
         ≡ piece_text result.0 numbers ++ text_left result.1 bytes (numbers_left result.0 numbers) }

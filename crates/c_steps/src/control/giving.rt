@@ -1,8 +1,8 @@
 //! How a task's code goes on after an answer.
 
-ghost use Rattle.std.specs.Prelude.{◌≡◌, ◌<◌, ◌+◌};
+ghost use Rattle.std.specs.Prelude.{ℕ, ◌≡◌, ◌<◌, ◌+◌};
 ghost use Rattle.c_model.specs.declared.question.Answer.TheVariants as of_answer;
-ghost use Rattle.c_model.specs.Answers.{AnswersFirst, AnswersItem, IsChunkAnswer};
+ghost use Rattle.c_model.specs.Answers.{AnswersFirst, AnswersItem, IsChunkAnswer, IsLockAnswer, IsSectionAnswer};
 ghost use Rattle.c_model.specs.AfterEvents as after_events;
 ghost use Rattle.c_steps.specs.ControlView.{moment_at, task_at};
 ghost use Rattle.c_steps.specs.Items.{item_at, loop_at, with_file};
@@ -50,7 +50,7 @@ impl Control {
     }
 
     /// Goes on after an answer to what this item asks.
-    #[tactic(auto, unfolding(c_model::specs::Answers::AnswersItem, c_model::specs::Answers::IsChunkAnswer, c_model::specs::Answers::IsSectionAnswer, c_model::specs::Answers::IsLockAnswer))]
+    #[tactic(auto, unfolding(c_model::specs::Answers::AnswersItem, c_model::specs::Answers::IsChunkAnswer))]
     fn go_on(&mut self, code: &Code, cells: &mut Cells, item: Item, answer: Answer)
         requires ready { IsStepping code.now self.old }
         requires item { IsItem code.now item }
@@ -67,17 +67,11 @@ impl Control {
             },
             Item::NextSection { node, names } => {
                 let node = Node { code, number: node };
-                match answer {
-                    Answer::Section(section) => self.give_section(node, names, section),
-                    _ => unreachable!(),
-                }
+                self.give_section(node, names, section_in(answer))
             }
             Item::TestLock { node, id, to } => {
                 let node = Node { code, number: node };
-                match answer {
-                    Answer::Free(free) => self.give_lock(cells, node, id, to, free),
-                    _ => unreachable!(),
-                }
+                self.give_lock(cells, node, id, to, is_free_in(answer))
             }
             _ => {}
         }
@@ -167,5 +161,27 @@ impl Control {
         } else {
             self.deliver(cells, to, 0);
         }
+    }
+}
+
+/// The section of an answer to what a construct's sections ask.
+#[tactic(auto, unfolding(c_model::specs::Answers::IsSectionAnswer))]
+fn section_in(answer: Answer) -> Option<u32>
+    ensures { (count : ℕ) → IsSectionAnswer count answer → answer ≡ of_answer.Section result }
+{
+    match answer {
+        Answer::Section(section) => section,
+        _ => None,
+    }
+}
+
+/// Whether the lock is free, of an answer to what a test asks.
+#[tactic(auto, unfolding(c_model::specs::Answers::IsLockAnswer))]
+fn is_free_in(answer: Answer) -> bool
+    ensures { IsLockAnswer answer → answer ≡ of_answer.Free result }
+{
+    match answer {
+        Answer::Free(free) => free,
+        _ => false,
     }
 }
