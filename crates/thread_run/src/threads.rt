@@ -4,7 +4,7 @@ ghost use Rattle.std.specs.Prelude.{◌≡◌, ◌≢◌, ◌≤◌, Some, IfOk,
 ghost use Rattle.thread_run.specs.Drivers.{CanDrive, HasServed, HaveComeBack};
 ghost use Rattle.team_run.specs.Program.{IsRanOf};
 
-use crate::team::{Stays, drive_here, finish_all, start_all};
+use crate::team::{Slot, Stays, drive_here, finish_all, start_all};
 use c_check::Program;
 use omp_machine::Limits;
 use omp_model::Cause;
@@ -80,25 +80,41 @@ fn run_team<R: Threads + Wait + Sync, K: BookName, P: ToolPart>(
     let slots = Vec::with_capacity(alloc, passes.len())?;
     let passes_back = Vec::with_capacity(alloc, passes.len())?;
     let parts_back = Vec::with_capacity(alloc, passes.len())?;
-    // No start of a thread was refused yet.
-    let stays: Stays = array::from_fn(|_| AtomicBool::new(false));
-    let (shared, stays) = (&book, &stays);
-    let (passes, parts) = thread::scope(
-        thread::scope_env(),
-        rt,
-        move |scope| -> (Vec<Pass<K>>, Vec<P>)
-            requires { CanDrive passes.items parts.items slots passes_back parts_back }
-            ensures { HaveComeBack P.stands_for P.same K.run passes.items parts.items result.0.items result.1.items }
-        {
-            let mut slots = start_all(scope, rt, shared, stays, passes, parts, slots);
-            drive_here(rt, shared, &mut slots);
-            finish_all(rt, slots, passes_back, parts_back)
-        },
-    );
+    let (passes, parts) = run_drivers(rt, &book, passes, parts, slots, passes_back, parts_back);
     Ok((book.close(passes), parts))
 }
 
 /// How many processors the threads may run on, or one where that isn't known.
 fn processors<R: Threads>(rt: &R) -> usize {
     thread::available_parallelism(rt).map_or(1, NonZeroUsize::get)
+}
+
+/// Runs the drivers of these passes and parts, each on a thread of its own, and hands them back in order.
+fn run_drivers<R: Threads + Wait + Sync, K: BookName, P: ToolPart>(
+    rt: &R,
+    book: &SharedBook<K>,
+    passes: Vec<Pass<K>>,
+    parts: Vec<P>,
+    slots: Vec<Slot<K, P>>,
+    passes_back: Vec<Pass<K>>,
+    parts_back: Vec<P>,
+) -> (Vec<Pass<K>>, Vec<P>)
+    requires { CanDrive passes.items parts.items slots passes_back parts_back }
+    ensures { HaveComeBack P.stands_for P.same K.run passes.items parts.items result.0.items result.1.items }
+{
+    // No start of a thread was refused yet.
+    let stays: Stays = array::from_fn(|_| AtomicBool::new(false));
+    let stays = &stays;
+    thread::scope(
+        thread::scope_env(),
+        rt,
+        move |scope| -> (Vec<Pass<K>>, Vec<P>)
+            requires { CanDrive passes.items parts.items slots passes_back parts_back }
+            ensures { HaveComeBack P.stands_for P.same K.run passes.items parts.items result.0.items result.1.items }
+        {
+            let mut slots = start_all(scope, rt, book, stays, passes, parts, slots);
+            drive_here(rt, book, &mut slots);
+            finish_all(rt, slots, passes_back, parts_back)
+        },
+    )
 }

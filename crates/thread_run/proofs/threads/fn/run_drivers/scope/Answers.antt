@@ -1,7 +1,7 @@
 use Rattle.std.proofs.Common.{◌≡◌, ◌∙◌, List, length, sym, ap}
 use Rattle.team_run.proofs.Serving.{written-back}
 use Rattle.thread_run.{specs.declared.team.Slot.Slot, specs.Drivers.IsSlot, proofs.Drivers.for-kept}
-use Rattle.thread_run.proofs.threads.fn.run_team.scope.Goals as goal
+use Rattle.thread_run.proofs.threads.fn.run_drivers.scope.Goals as goal
 
 pub returns : goal.returns
 returns g c =
