@@ -11,6 +11,7 @@ use crate::observing::{Gave, run_alone, run_by_threads};
 use crate::writing::Lines;
 use ompt_words::Command;
 use std::alloc::{AllocError, Global};
+use std::mem;
 use std::sync::Wait;
 use std::thread::Threads;
 use tool_api::ToolPart;
@@ -36,18 +37,18 @@ pub(crate) trait Keeper: ToolPart {
         ensures { IfOk result (λ text. (events : List EventRecord) → AreKept keep events parts.now →
             text.items ≡ text_of command events printed.now) };
 
-    /// Runs the job, which is serial, with these parts. Parts may be sent to threads, and nothing says of a type
-    /// parameter of a method that it may be sent. So each kind makes its own runs.
-    fn run_alone(job: Job, parts: Vec<Self>) -> Gave<Self>
+    /// Runs the job, which is serial, with the parts of this list, which it takes out of it. Parts may be sent to
+    /// threads, and nothing says of a type parameter of a method that it may be sent. So each kind makes its own runs.
+    fn run_alone(job: Job, parts: &mut Vec<Self>) -> Gave<Self>
         requires serial { job.settings.serial ≡ true }
-        requires parts { length parts.items ≡ job.settings.threads }
-        ensures { IfOk result (RunsJob Self.stands_for Self.same job parts.items) };
+        requires parts { length parts.old.items ≡ job.settings.threads }
+        ensures { IfOk result (RunsJob Self.stands_for Self.same job parts.old.items) };
 
     /// Does what [`Keeper::run_alone`] does for each job, by threads where it isn't serial.
-    fn on_threads<R: Threads + Wait + Sync>(rt: &R, job: Job, parts: Vec<Self>) -> Gave<Self>
+    fn on_threads<R: Threads + Wait + Sync>(rt: &R, job: Job, parts: &mut Vec<Self>) -> Gave<Self>
         requires sync { IsSync R.row }
-        requires parts { length parts.items ≡ job.settings.threads }
-        ensures { IfOk result (RunsJob Self.stands_for Self.same job parts.items) };
+        requires parts { length parts.old.items ≡ job.settings.threads }
+        ensures { IfOk result (RunsJob Self.stands_for Self.same job parts.old.items) };
 
     ghost stands: { (kept : Self) (h : Record) → KeeperFor keep kept h ↔ Self.stands_for kept h };
 }
@@ -74,12 +75,14 @@ impl Keeper for Recorder {
         }
     }
 
-    fn run_alone(job: Job, parts: Vec<Self>) -> Gave<Self> {
-        run_alone(job, parts)
+    fn run_alone(job: Job, parts: &mut Vec<Self>) -> Gave<Self> {
+        let list = mem::replace(parts, Vec::new(job.alloc));
+        run_alone(job, list)
     }
 
-    fn on_threads<R: Threads + Wait + Sync>(rt: &R, job: Job, parts: Vec<Self>) -> Gave<Self> {
-        run_by_threads(rt, job, parts)
+    fn on_threads<R: Threads + Wait + Sync>(rt: &R, job: Job, parts: &mut Vec<Self>) -> Gave<Self> {
+        let list = mem::replace(parts, Vec::new(job.alloc));
+        run_by_threads(rt, job, list)
     }
 
     ghost stands = { λ kept h. (λ for. for, λ for. for) };
@@ -101,12 +104,14 @@ impl Keeper for Profile {
         profile_text(alloc, parts)
     }
 
-    fn run_alone(job: Job, parts: Vec<Self>) -> Gave<Self> {
-        run_alone(job, parts)
+    fn run_alone(job: Job, parts: &mut Vec<Self>) -> Gave<Self> {
+        let list = mem::replace(parts, Vec::new(job.alloc));
+        run_alone(job, list)
     }
 
-    fn on_threads<R: Threads + Wait + Sync>(rt: &R, job: Job, parts: Vec<Self>) -> Gave<Self> {
-        run_by_threads(rt, job, parts)
+    fn on_threads<R: Threads + Wait + Sync>(rt: &R, job: Job, parts: &mut Vec<Self>) -> Gave<Self> {
+        let list = mem::replace(parts, Vec::new(job.alloc));
+        run_by_threads(rt, job, list)
     }
 
     ghost stands = { λ kept h. (λ for. for, λ for. for) };
@@ -132,12 +137,14 @@ impl Keeper for Timeline {
         }
     }
 
-    fn run_alone(job: Job, parts: Vec<Self>) -> Gave<Self> {
-        run_alone(job, parts)
+    fn run_alone(job: Job, parts: &mut Vec<Self>) -> Gave<Self> {
+        let list = mem::replace(parts, Vec::new(job.alloc));
+        run_alone(job, list)
     }
 
-    fn on_threads<R: Threads + Wait + Sync>(rt: &R, job: Job, parts: Vec<Self>) -> Gave<Self> {
-        run_by_threads(rt, job, parts)
+    fn on_threads<R: Threads + Wait + Sync>(rt: &R, job: Job, parts: &mut Vec<Self>) -> Gave<Self> {
+        let list = mem::replace(parts, Vec::new(job.alloc));
+        run_by_threads(rt, job, list)
     }
 
     ghost stands = { λ kept h. (λ for. for, λ for. for) };

@@ -54,8 +54,8 @@ pub(crate) fn run_kept<X: Runner, P: Keeper>(by: &X, job: Job, guests: Guests) -
     ensures guests { IfOk result (λ observed. observed.report.guests ≡ guests) }
 {
     let (settings, program) = (job.settings, ProgramTree::of(&job.loaded));
-    let parts = keepers::<P>(job.alloc, settings.threads)?;
-    let ran = by.run(job, parts)?;
+    let mut parts = keepers::<P>(job.alloc, settings.threads)?;
+    let ran = by.run(job, &mut parts)?;
     Ok(with_report(settings, program, ran, guests))
 }
 

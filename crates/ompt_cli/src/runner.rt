@@ -17,11 +17,11 @@ pub(crate) trait Runner {
     /// Whether it runs jobs that are serial, or jobs that aren't.
     ghost may_run: { Self → Bool → Type 0 };
 
-    /// Runs the job with these parts.
-    fn run<P: Keeper>(&self, job: Job, parts: Vec<P>) -> Gave<P>
+    /// Runs the job with the parts that this list has. What the list holds afterwards is no clause.
+    fn run<P: Keeper>(&self, job: Job, parts: &mut Vec<P>) -> Gave<P>
         requires kind { may_run self.now job.settings.serial }
-        requires parts { length parts.items ≡ job.settings.threads }
-        ensures { IfOk result (RunsJob P.stands_for P.same job parts.items) };
+        requires parts { length parts.old.items ≡ job.settings.threads }
+        ensures { IfOk result (RunsJob P.stands_for P.same job parts.old.items) };
 
     /// Runs the job with these parts, which are guests.
     fn run_guests(&self, job: Job, parts: Vec<Part>) -> Gave<Part>
@@ -46,7 +46,7 @@ pub(crate) struct Alone;
 impl Runner for Alone {
     ghost may_run = { λ _ serial. serial ≡ true };
 
-    fn run<P: Keeper>(&self, job: Job, parts: Vec<P>) -> Gave<P> {
+    fn run<P: Keeper>(&self, job: Job, parts: &mut Vec<P>) -> Gave<P> {
         P::run_alone(job, parts)
     }
 
@@ -66,7 +66,7 @@ pub(crate) struct WithThreads<'a, R>(pub &'a R);
 impl<'a, R: Threads + Wait + Sync> Runner for WithThreads<'a, R> {
     ghost may_run = { λ _ _. IsSync R.row };
 
-    fn run<P: Keeper>(&self, job: Job, parts: Vec<P>) -> Gave<P> {
+    fn run<P: Keeper>(&self, job: Job, parts: &mut Vec<P>) -> Gave<P> {
         P::on_threads(self.0, job, parts)
     }
 
