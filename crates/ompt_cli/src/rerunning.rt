@@ -48,17 +48,28 @@ fn read_file<S: Source>(alloc: Global, source: &mut S) -> Result<HistoryFile, En
     ensures steady { result ≢ Err End.ReadFault → S.faults source.new ≡ S.faults source.old }
 {
     match read_all(alloc, source, HISTORY_LIMIT) {
-        Ok(bytes) => match read_history(alloc, &bytes) {
-            Ok(file) => Ok(file),
-            Err(HistoryFault::Refused(reason, offset)) => Err(End::HistoryRefused(reason, offset)),
-            Err(HistoryFault::Memory) => Err(End::Memory),
-        },
+        Ok(bytes) => file_of_bytes(alloc, &bytes),
         Err(ReadAllFault::TooLong) => Err(End::HistoryRefused(
             HistoryReason::TooLong,
             u64::from(HISTORY_LIMIT),
         )),
         Err(ReadAllFault::ReadFault) => Err(End::ReadFault),
         Err(ReadAllFault::Memory) => Err(End::Memory),
+    }
+}
+
+/// The history file that the bytes are.
+fn file_of_bytes(alloc: Global, bytes: &[u8]) -> Result<HistoryFile, End>
+    ensures file { IfOk result (λ file. WritesHistory file bytes.now) }
+    ensures refused { IfErr result (IsUnreadFile (Some bytes.now)) }
+    ensures only { (file : SeenFile) → WritesHistory file bytes.now →
+        MatchResult result (λ given. given ≡ file) (λ end. (end ≡ End.ReadFault) ⊎ (end ≡ End.Memory)) }
+    ensures read { result ≢ Err End.ReadFault }
+{
+    match read_history(alloc, bytes) {
+        Ok(file) => Ok(file),
+        Err(HistoryFault::Refused(reason, offset)) => Err(End::HistoryRefused(reason, offset)),
+        Err(HistoryFault::Memory) => Err(End::Memory),
     }
 }
 
