@@ -30,10 +30,7 @@ pub(crate) fn rerun_history<S: Source, O: Sink>(alloc: Global, source: &mut S, o
     ensures writes { CountsFaults result End.WriteFault (O.faults out.old) (O.faults out.new) }
 {
     match read_file(alloc, source) {
-        Ok(file) => match program_of(alloc, file.text.as_slice()) {
-            Ok(program) => judge(alloc, program, &file, out),
-            Err(end) => end,
-        },
+        Ok(file) => judge(alloc, &file, out),
         Err(end) => end,
     }
 }
@@ -73,8 +70,24 @@ fn file_of_bytes(alloc: Global, bytes: &[u8]) -> Result<HistoryFile, End>
     }
 }
 
+/// Judges a history file.
+fn judge<O: Sink>(alloc: Global, file: &HistoryFile, out: &mut O) -> End
+    requires { IsHistoryFile file.now }
+    ensures end { IsReading result }
+    ensures faultless { result ≢ End.ReadFault }
+    ensures rerun { (left : Option (List ℕ)) → IfSome left (WritesHistory file.now) →
+        HasRerun result left (O.held out.old) (O.held out.new) }
+    ensures certified { Certifies file.now → MayCertify result }
+    ensures writes { CountsFaults result End.WriteFault (O.faults out.old) (O.faults out.new) }
+{
+    match program_of(alloc, file.text.as_slice()) {
+        Ok(program) => judge_program(alloc, program, file, out),
+        Err(end) => end,
+    }
+}
+
 /// Judges a history file whose text spells this program.
-fn judge<O: Sink>(alloc: Global, program: Program, file: &HistoryFile, out: &mut O) -> End
+fn judge_program<O: Sink>(alloc: Global, program: Program, file: &HistoryFile, out: &mut O) -> End
     requires { IsHistoryFile file.now }
     ensures end { IsReading result }
     ensures faultless { result ≢ End.ReadFault }
