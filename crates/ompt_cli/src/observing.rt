@@ -63,6 +63,31 @@ pub(crate) fn run_by_threads<R: Threads + Wait + Sync, P: ToolPart>(
     run_threads(rt, alloc, loaded.program, limits, parts)
 }
 
+/// Does what [`run_alone`] does. The report has no guests.
+pub(crate) fn observe_alone<P: ToolPart>(job: Job, parts: Vec<P>) -> Observation<P>
+    requires serial { job.settings.serial ≡ true }
+    requires parts { length parts.items ≡ job.settings.threads }
+    ensures { IfOk result (HasObserved P.stands_for P.same job parts.items) }
+{
+    let (alloc, settings, program) = (job.alloc, job.settings, ProgramTree::of(&job.loaded));
+    let ran = run_alone(job, parts)?;
+    Ok(with_report(settings, program, ran, Vec::new(alloc)))
+}
+
+/// Does what [`run_by_threads`] does. The report has no guests.
+pub(crate) fn observe<R: Threads + Wait + Sync, P: ToolPart>(
+    rt: &R,
+    job: Job,
+    parts: Vec<P>,
+) -> Observation<P>
+    requires { length parts.items ≡ job.settings.threads }
+    ensures { IfOk result (HasObserved P.stands_for P.same job parts.items) }
+{
+    let (alloc, settings, program) = (job.alloc, job.settings, ProgramTree::of(&job.loaded));
+    let ran = run_by_threads(rt, job, parts)?;
+    Ok(with_report(settings, program, ran, Vec::new(alloc)))
+}
+
 /// What a run of this program with these settings gave, with these guests in its report.
 pub(crate) fn with_report<P: ToolPart>(
     settings: Settings,

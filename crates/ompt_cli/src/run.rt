@@ -11,8 +11,8 @@ ghost use Rattle.ompt_cli.specs.{declared.job.Job.Job, Guests.GuestsAfter, Repor
 use crate::end::End;
 use crate::guests::{Guests, Handing, hand_out_all, take_back_all};
 use crate::job::Job;
-use crate::observing::{Observation, ObservedRun, with_report};
-use crate::report::{AfterRun, Came, ProgramTree, Report};
+use crate::observing::{Observation, ObservedRun};
+use crate::report::{AfterRun, Came, Report};
 use crate::runner::Runner;
 use crate::writing::{Lines, write_made, write_run};
 use history_file::{FileText, HistoryFile, end_of, write_history};
@@ -62,9 +62,7 @@ fn serve<X: Runner>(by: &X, job: Job, guests: Guests) -> Result<(Report, Vec<u8>
         served.1.items ≡ (after (run_of served.0) served.0.history).world.store.text) }
 {
     let Handing { parts, waiting } = hand_out_all(job.alloc, job.settings.threads, guests)?;
-    let (alloc, settings, program) = (job.alloc, job.settings, ProgramTree::of(&job.loaded));
-    let ran = by.run_guests(job, parts)?;
-    let mut observed = with_report(settings, program, ran, Vec::new(alloc));
+    let mut observed = by.run_guests(job, parts)?;
     observed.report.guests = take_back_all(observed.parts, waiting);
     Ok((observed.report, observed.text))
 }
@@ -110,9 +108,7 @@ fn serve_profiled<X: Runner>(by: &X, job: Job, guests: Guests) -> Observation<Pr
 {
     let Handing { parts, waiting } = hand_out_all(job.alloc, job.settings.threads, guests)?;
     let Joined { parts, room, .. } = join_all(job.alloc, parts)?;
-    let (alloc, settings, program) = (job.alloc, job.settings, ProgramTree::of(&job.loaded));
-    let ran = by.run_joined(job, parts)?;
-    let mut observed = with_report(settings, program, ran, Vec::new(alloc));
+    let mut observed = by.run_joined(job, parts)?;
     let Parted { parts, profiles } = part_all(room, observed.parts);
     observed.report.guests = take_back_all(parts, waiting);
     Ok(ObservedRun {

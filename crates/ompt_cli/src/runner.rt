@@ -2,12 +2,12 @@
 
 ghost use Rattle.std.specs.{Prelude.◌≡◌, Prelude.Bool, Prelude.IfOk, Prelude.length, Prelude.true, Thread.IsSync};
 ghost use Rattle.ompt_cli.specs.Names.{HandedFor, SameHanded, ProfiledFor, SameProfiled};
-ghost use Rattle.ompt_cli.specs.Reports.{RunsJob};
+ghost use Rattle.ompt_cli.specs.Reports.{HasObserved, RunsJob};
 
 use crate::guests::Part;
 use crate::job::Job;
 use crate::keepers::Keeper;
-use crate::observing::{Gave, run_alone, run_by_threads};
+use crate::observing::{Gave, Observation, observe, observe_alone};
 use std::sync::Wait;
 use std::thread::Threads;
 use tool_profiled::Profiled;
@@ -23,18 +23,18 @@ pub(crate) trait Runner {
         requires parts { length parts.old.items ≡ job.settings.threads }
         ensures { IfOk result (RunsJob P.stands_for P.same job parts.old.items) };
 
-    /// Runs the job with these parts, which are guests.
-    fn run_guests(&self, job: Job, parts: Vec<Part>) -> Gave<Part>
+    /// Runs the job with these parts. The report has no guests.
+    fn run_guests(&self, job: Job, parts: Vec<Part>) -> Observation<Part>
         requires kind { may_run self.now job.settings.serial }
         requires parts { length parts.items ≡ job.settings.threads }
-        ensures { IfOk result (RunsJob (HandedFor (λ guest h. (GuestTool-box guest.0).stands_for guest.0.value h))
+        ensures { IfOk result (HasObserved (HandedFor (λ guest h. (GuestTool-box guest.0).stands_for guest.0.value h))
             (SameHanded (λ guest other. guest.0.vtable ≡ other.0.vtable)) job parts.items) };
 
-    /// Runs the job with these parts, which are joined with profiles.
-    fn run_joined(&self, job: Job, parts: Vec<Profiled<Part>>) -> Gave<Profiled<Part>>
+    /// Runs the job with these parts, which are joined with profiles. The report has no guests.
+    fn run_joined(&self, job: Job, parts: Vec<Profiled<Part>>) -> Observation<Profiled<Part>>
         requires kind { may_run self.now job.settings.serial }
         requires parts { length parts.items ≡ job.settings.threads }
-        ensures { IfOk result (RunsJob
+        ensures { IfOk result (HasObserved
             (ProfiledFor (HandedFor (λ guest h. (GuestTool-box guest.0).stands_for guest.0.value h)))
             (SameProfiled (SameHanded (λ guest other. guest.0.vtable ≡ other.0.vtable))) job parts.items) };
 }
@@ -50,12 +50,12 @@ impl Runner for Alone {
         P::run_alone(job, parts)
     }
 
-    fn run_guests(&self, job: Job, parts: Vec<Part>) -> Gave<Part> {
-        run_alone(job, parts)
+    fn run_guests(&self, job: Job, parts: Vec<Part>) -> Observation<Part> {
+        observe_alone(job, parts)
     }
 
-    fn run_joined(&self, job: Job, parts: Vec<Profiled<Part>>) -> Gave<Profiled<Part>> {
-        run_alone(job, parts)
+    fn run_joined(&self, job: Job, parts: Vec<Profiled<Part>>) -> Observation<Profiled<Part>> {
+        observe_alone(job, parts)
     }
 }
 
@@ -70,11 +70,11 @@ impl<'a, R: Threads + Wait + Sync> Runner for WithThreads<'a, R> {
         P::on_threads(self.0, job, parts)
     }
 
-    fn run_guests(&self, job: Job, parts: Vec<Part>) -> Gave<Part> {
-        run_by_threads(self.0, job, parts)
+    fn run_guests(&self, job: Job, parts: Vec<Part>) -> Observation<Part> {
+        observe(self.0, job, parts)
     }
 
-    fn run_joined(&self, job: Job, parts: Vec<Profiled<Part>>) -> Gave<Profiled<Part>> {
-        run_by_threads(self.0, job, parts)
+    fn run_joined(&self, job: Job, parts: Vec<Profiled<Part>>) -> Observation<Profiled<Part>> {
+        observe(self.0, job, parts)
     }
 }
